@@ -1,0 +1,5 @@
+//! Tests of go.mod files, as tables.
+#![tactic(auto)]
+
+#[cfg(test)]
+mod gomod;
