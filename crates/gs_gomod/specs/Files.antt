@@ -20,7 +20,7 @@ bad_line text =
 -- a text without a bad line says this
 pub record Says (text : List ℕ) (m : Mod) : Type 0 where
   pub sound : bad_line text ≡ None
-  pub path : module_of (forms_of text) ≡ Some m.«module»
+  pub path : module_of (forms_of text) ≡ Some m.module
   pub replaced : m.replaced ≡ put_all [] (forms_of text)
 
 -- bytes that are not UTF-8 are bad from line 1 on

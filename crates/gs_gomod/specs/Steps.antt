@@ -32,7 +32,7 @@ bad_in f last =
 
 -- what is answered to what the lines say
 abbrev pub Concludes : Found → ℕ → Result Mod ModFault → Type 0
-Concludes f last (Ok m) = (bad_in f last ≡ None) × (option_map (λ (x : Bor (List ℕ)). x.now) f.path ≡ Some m.«module») × (m.replaced ≡ f.replaced.entries)
+Concludes f last (Ok m) = (bad_in f last ≡ None) × (option_map (λ (x : Bor (List ℕ)). x.now) f.path ≡ Some m.module) × (m.replaced ≡ f.replaced.entries)
 Concludes f last (Err (Line n)) = bad_in f last ≡ Some n
 Concludes f last (Err NoMemory) = Unit {0}
 

@@ -1,0 +1,10 @@
+pub mod Bytes
+pub mod FieldLemmas
+pub mod Lined
+pub mod Scanning
+pub mod Fronts
+pub mod Staying
+pub mod Reading
+pub mod Written
+pub mod Running
+pub mod Answering

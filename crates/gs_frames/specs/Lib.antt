@@ -1,0 +1,6 @@
+pub mod Header
+pub mod Frames
+pub mod Lines
+pub mod Unread
+pub mod Calls
+pub mod Runs

@@ -1,0 +1,12 @@
+pub mod Greatest
+pub mod Fits
+pub mod LineText
+pub mod Ranges
+pub mod Walks
+pub mod Starts
+pub mod OffsetsAt
+pub mod FileLemmas
+pub mod Whole
+pub mod Counts
+pub mod Offsets
+pub mod PositionLaws

@@ -1,0 +1,9 @@
+pub mod TextLines
+pub mod LineEnds
+pub mod Lines
+pub mod Units
+pub mod Positions
+pub mod FileMap
+pub mod Sources
+pub mod Order
+pub mod LastFit
