@@ -1,0 +1,17 @@
+pub mod ByteMarkLemmas
+pub mod UntilLemmas
+pub mod WordLemmas
+pub mod MarkLemmas
+pub mod NumberLemmas
+pub mod FirstLemmas
+pub mod StandingBlanks
+pub mod StandingWords
+pub mod StandingMarks
+pub mod StandingNumbers
+pub mod CommentLemmas
+pub mod StandingComments
+pub mod EscapeLemmas
+pub mod QuoteLemmas
+pub mod RawLemmas
+pub mod RuneLemmas
+pub mod StandingQuotes

@@ -1,0 +1,10 @@
+pub mod Kinds
+pub mod Words
+pub mod Digits
+pub mod Floats
+pub mod Numbers
+pub mod Quotes
+pub mod Comments
+pub mod Spelling
+pub mod Tokens
+pub mod Chunks

@@ -1,0 +1,15 @@
+//! The laws of tokens.
+ghost use Rattle.std.specs.Prelude.{◌≡◌, ℕ, List, length};
+ghost use Rattle.gs_syntax.specs.declared.token.Token.{Token as AToken};
+ghost use Rattle.gs_syntax.specs.Tokens.{AreTokens};
+ghost use Rattle.gs_syntax.specs.Chunks.{Follow, chunks_of};
+
+/// A text has at most one list of tokens.
+pub fn one_list()
+    ensures { (text : List ℕ) (ts us : List AToken) → AreTokens text ts → AreTokens text us → ts ≡ us }
+{}
+
+/// The chunks of a list of tokens are all of it: each begins where the one before ends, and none is empty.
+pub fn chunks_follow()
+    ensures { (ts : List AToken) → Follow 0 (length ts) (chunks_of ts) }
+{}

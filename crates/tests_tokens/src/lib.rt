@@ -1,0 +1,5 @@
+//! Tests of the scanner.
+#![tactic(auto)]
+
+#[cfg(test)]
+mod tokens;
