@@ -1,0 +1,7 @@
+mod Moving
+mod Placing
+mod Naming
+mod Reporting
+mod Forming
+mod Fewness
+mod Ending

@@ -1,0 +1,10 @@
+use Rattle.std.proofs.Common.{◌≡◌, ◌≤◌, ◌+◌, drop}
+use Rattle.gs_rules.specs.Lines.{place_behind}
+use Rattle.goserve.proofs.line.place_behind.Given as goal
+
+abbrev pub invariant-loop-b : goal.invariant-loop-b
+invariant-loop-b l = record {
+  place : place_behind l.place (drop l.b-index l.bytes) ≡ place_behind l.fn.start l.bytes;
+  line : l.place.line ≤ l.fn.start.line + l.b-index;
+  column : l.place.column ≤ l.fn.start.column + l.b-index + 1;
+}

@@ -1,0 +1,9 @@
+pub mod Words
+pub mod FirstForm
+pub mod Seen
+pub mod Simple
+pub mod Answers
+pub mod Statuses
+pub mod Moves
+pub mod Writes
+pub mod Runs

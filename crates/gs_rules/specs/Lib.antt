@@ -1,0 +1,5 @@
+pub mod Universe
+pub mod Trees
+pub mod Files
+pub mod Faults
+pub mod Lines
