@@ -1,5 +1,8 @@
 pub mod Afters
+pub mod Begins
+pub mod Better
 pub mod Common
+pub mod Decides
 pub mod Exact
 pub mod ExactFive
 pub mod ExactFour
@@ -13,7 +16,9 @@ pub mod Forms
 pub mod Later
 pub mod LaterExact
 pub mod Longest
+pub mod Mixed
 pub mod Nones
+pub mod Plainly
 pub mod Rows
 pub mod Sound
 pub mod SoundFive

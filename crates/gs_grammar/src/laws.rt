@@ -1,13 +1,14 @@
 //! The laws of the grammar: at a place one tree stands at most, and the rows of the reference say which.
-ghost use Rattle.std.specs.Prelude.{◌≡◌, ◌≤◌, ℕ, Bool, false, List, Some, length};
+ghost use Rattle.std.specs.Prelude.{◌≡◌, ◌≤◌, ◌++◌, ℕ, Bool, false, List, Some, length};
 ghost use Rattle.gs_syntax.specs.declared.token.Token.{Token as AToken};
-ghost use Rattle.gs_grammar.specs.Grammar.{IsTypeAt, IsExprAt, IsBlockAt, IsChunkAt};
+ghost use Rattle.gs_grammar.specs.Grammar.{AreStmts, IsTypeAt, IsExprAt, IsBlockAt, IsChunkAt, StandsBelow};
 ghost use Rattle.gs_grammar.specs.Parts.{found};
-ghost use Rattle.gs_grammar.specs.Plain.{IsPlainExprAt};
+ghost use Rattle.gs_grammar.specs.Plain.{IsPlainTypeAt, IsPlainExprAt, IsPlainBlockAt, IsPlainChunkAt, ArePlainStmtsAt};
 ghost use Rattle.gs_grammar.specs.Reference.{row};
 ghost use Rattle.gs_grammar.specs.declared.trees.TypeExpr.{TypeExpr};
 ghost use Rattle.gs_grammar.specs.declared.trees.Expr.{Expr};
 ghost use Rattle.gs_grammar.specs.declared.trees.Block.{Block};
+ghost use Rattle.gs_grammar.specs.declared.trees.Stmt.{Stmt};
 ghost use Rattle.gs_grammar.specs.declared.trees.Chunk.{Chunk};
 
 /// At a place at most one type stands, with one end and one depth.
@@ -55,4 +56,36 @@ pub fn row_of_chunk()
 pub fn longest_expr()
     ensures plain { (h : Bool) (t : Expr) (s r : List AToken) (d : ℕ) → IsExprAt h t s r d → IsPlainExprAt h t s r d }
     ensures longest { (h : Bool) (t : Expr) (s r : List AToken) (d : ℕ) → IsPlainExprAt h t s r d → (u : Expr) × (v : List AToken) × (c : ℕ) × IsExprAt h u s v c × (length v ≤ length r) }
+{}
+
+/// The plain grammar has at a place the type that stands there and no other, with one end and one depth; where none
+/// stands, it has none.
+pub fn longest_type()
+    ensures plain { (t : TypeExpr) (s r : List AToken) (d : ℕ) → IsTypeAt t s r d → IsPlainTypeAt t s r d }
+    ensures stands { (t : TypeExpr) (s r : List AToken) (d : ℕ) → IsPlainTypeAt t s r d → IsTypeAt t s r d }
+    ensures one { (t u : TypeExpr) (s r v : List AToken) (c d : ℕ) → IsPlainTypeAt t s r c → IsPlainTypeAt u s v d → (t ≡ u) × (r ≡ v) × (c ≡ d) }
+{}
+
+/// The plain grammar has at a place the block that stands there and no other, with one end and one depth; where none
+/// stands, it has none.
+pub fn longest_block()
+    ensures plain { (t : Block) (s r : List AToken) (d : ℕ) → IsBlockAt t s r d → IsPlainBlockAt t s r d }
+    ensures stands { (t : Block) (s r : List AToken) (d : ℕ) → IsPlainBlockAt t s r d → IsBlockAt t s r d }
+    ensures one { (t u : Block) (s r v : List AToken) (c d : ℕ) → IsPlainBlockAt t s r c → IsPlainBlockAt u s v d → (t ≡ u) × (r ≡ v) × (c ≡ d) }
+{}
+
+/// The plain grammar has at a place the chunk that stands there and no other, with one end and one depth; where none
+/// stands, it has none.
+pub fn longest_chunk()
+    ensures plain { (t : Chunk) (s r : List AToken) (d : ℕ) → IsChunkAt t s r d → IsPlainChunkAt t s r d }
+    ensures stands { (t : Chunk) (s r : List AToken) (d : ℕ) → IsPlainChunkAt t s r d → IsChunkAt t s r d }
+    ensures one { (t u : Chunk) (s r v : List AToken) (c d : ℕ) → IsPlainChunkAt t s r c → IsPlainChunkAt u s v d → (t ≡ u) × (r ≡ v) × (c ≡ d) }
+{}
+
+/// The list of statements that stands at a place is one of the plain grammar; each that the plain grammar has there is a
+/// front of it, and none is longer.
+pub fn longest_stmts()
+    ensures plain { (ts : List Stmt) (s r : List AToken) (d : ℕ) → AreStmts (StandsBelow (length s)) ts s r d → ArePlainStmtsAt ts s r d }
+    ensures front { (ts us : List Stmt) (s r v : List AToken) (c d : ℕ) → AreStmts (StandsBelow (length s)) ts s r c → ArePlainStmtsAt us s v d → (vs : List Stmt) × (ts ≡ us ++ vs) }
+    ensures longest { (ts us : List Stmt) (s r v : List AToken) (c d : ℕ) → AreStmts (StandsBelow (length s)) ts s r c → ArePlainStmtsAt us s v d → length r ≤ length v }
 {}
