@@ -1,8 +1,15 @@
 #!/bin/sh
-# Times the scanner on generated Go-like text, beside go/scanner where Go is installed.
-# usage: bench/scan.sh [MEGABYTES]     (20 where none is given; run at the top of the repository)
+# Times the scanner on generated Go-like text, beside go/scanner where Go is installed: the two by turns in the same run, several
+# times each, as one text and as a hundred texts of the same bytes. It prints the best and the median of each.
+# usage: bench/scan.sh [MEGABYTES [RUNS]]     (20 and 9 where none are given; run at the top of the repository)
+#
+# What is timed is the call of scan for each text, from the text in memory to its list of tokens, with the names and the values
+# of strings that the tokens own. go/scanner hands out one token after the other and keeps none, so our time alone has the cost
+# of the list: 64 bytes a token, 333 MB for 20 MB of text. Nearly all of that is memory that the system hands out page by page
+# as the list first reaches it; of a hundred texts each one takes the pages that the one before gave back.
 set -eu
 megabytes=${1:-20}
+runs=${2:-9}
 top=$(cd "$(dirname "$0")/.." && pwd)
 work=$(mktemp -d)
 trap 'rm -rf "$work"' EXIT
@@ -17,6 +24,8 @@ awk -v want="$((megabytes * 1000000))" 'BEGIN {
         size += length(part)
     }
 }' > "$work/input.go"
+mkdir "$work/parts"
+split -n l/100 "$work/input.go" "$work/parts/input."
 
 mkdir -p "$work/repository/crates/scan_bench/src"
 for crate in gs_base gs_syntax gs_numbers gs_scan; do
@@ -25,7 +34,7 @@ for crate in gs_base gs_syntax gs_numbers gs_scan; do
 done
 echo "scan_bench: gs_base gs_scan gs_syntax gs_numbers sqlite_items unicode ucd_category ucd_table" >> "$work/repository/crates.txt"
 cat > "$work/repository/crates/scan_bench/src/main.rt" <<'PROGRAM'
-//! Times the scanner on the file that its argument names.
+//! Times the scanner on the files that its arguments name: the microseconds, and how many tokens there are.
 #![tactic(auto)]
 
 use gs_scan::scan::scan;
@@ -33,6 +42,8 @@ use std::time::Instant;
 use std::{env, fs, io};
 
 fn main(rt: HostRuntime) -> io::Result<()> {
+    let mut count = 0usize;
+    let mut nanoseconds = 0u128;
     for path in env::args(&rt)?.skip(1) {
         let text = fs::read_to_string(&rt, path.as_str())?;
         if text.len() >= 1 << 32 {
@@ -41,15 +52,21 @@ fn main(rt: HostRuntime) -> io::Result<()> {
         let start = Instant::now(&rt)?;
         let found = scan(rt.alloc(), text.as_str());
         let elapsed = start.elapsed(&rt)?;
-        match found {
-            Ok(tokens) => println!(rt; "goserve     {} tokens in {} ms", tokens.len(), elapsed.as_millis())?,
-            Err(_) => println!(rt; "goserve     out of memory")?,
+        if let Ok(tokens) = found {
+            count = count.saturating_add(tokens.len());
+            nanoseconds = nanoseconds.saturating_add(elapsed.as_nanos());
         }
     }
+    println!(rt; "{} {}", nanoseconds / 1000, count)?;
     Ok(())
 }
 PROGRAM
-(cd "$work/repository/crates/scan_bench" && rt run -- "$work/input.go" "$work/input.go" "$work/input.go")
+(cd "$work/repository/crates/scan_bench" && rt run -- "$work/parts/input.aa") > "$work/build.log" 2>&1 || {
+    cat "$work/build.log" >&2
+    exit 1
+}
+cp "$work/repository/crates/scan_bench/out/scan_bench" "$work/ours"
+programs=ours
 
 if command -v go > /dev/null; then
     mkdir "$work/peer"
@@ -64,27 +81,62 @@ import (
 	"time"
 )
 
+func scan(text []byte) int {
+	files := token.NewFileSet()
+	var s scanner.Scanner
+	s.Init(files.AddFile("input.go", -1, len(text)), text, nil, 0)
+	count := 0
+	for {
+		_, kind, _ := s.Scan()
+		if kind == token.EOF {
+			return count
+		}
+		count++
+	}
+}
+
 func main() {
+	count := 0
+	var elapsed time.Duration
 	for _, path := range os.Args[1:] {
 		text, err := os.ReadFile(path)
 		if err != nil {
 			panic(err)
 		}
 		start := time.Now()
-		files := token.NewFileSet()
-		var s scanner.Scanner
-		s.Init(files.AddFile(path, -1, len(text)), text, nil, 0)
-		count := 0
-		for {
-			_, kind, _ := s.Scan()
-			if kind == token.EOF {
-				break
-			}
-			count++
-		}
-		fmt.Printf("go/scanner  %d tokens in %d ms\n", count, time.Since(start).Milliseconds())
+		count += scan(text)
+		elapsed += time.Since(start)
 	}
+	fmt.Println(elapsed.Microseconds(), count)
 }
 PROGRAM
-    (cd "$work/peer" && GOCACHE="$work/cache" GO111MODULE=off go build -o peer main.go && ./peer "$work/input.go" "$work/input.go" "$work/input.go")
+    (cd "$work/peer" && GOCACHE="$work/cache" GO111MODULE=off go build -o ../gos main.go)
+    programs="ours gos"
 fi
+
+# the programs by turns on the files, and then the best and the median of each
+measure() {
+    title=$1
+    shift
+    rm -f "$work"/times.*
+    run=0
+    while [ "$run" -lt "$runs" ]; do
+        for program in $programs; do
+            "$work/$program" "$@" >> "$work/times.$program"
+        done
+        run=$((run + 1))
+    done
+    echo "$title, $runs runs"
+    for program in $programs; do
+        case $program in
+            ours) name=goserve ;;
+            *) name=go/scanner ;;
+        esac
+        sort -n "$work/times.$program" | awk -v name="$name" '
+            { time[NR] = $1; count = $2 }
+            END { printf "  %-10s  %d tokens, best %.3f s, median %.3f s\n", name, count, time[1] / 1e6, time[int((NR + 1) / 2)] / 1e6 }'
+    done
+}
+
+measure "one text of $megabytes MB" "$work/input.go"
+measure "the same as 100 texts" "$work"/parts/input.*

@@ -1,9 +1,11 @@
 pub mod ByteMarkLemmas
 pub mod UntilLemmas
 pub mod WordLemmas
+pub mod KeywordLemmas
 pub mod MarkLemmas
 pub mod NumberLemmas
 pub mod FirstLemmas
+pub mod StepLemmas
 pub mod StandingBlanks
 pub mod StandingWords
 pub mod StandingMarks

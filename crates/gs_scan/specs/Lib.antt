@@ -2,3 +2,4 @@ pub mod Pieces
 pub mod Marks
 pub mod Escapes
 pub mod Reading
+pub mod Steps

@@ -72,6 +72,19 @@ keyword_of bytes =
     else if bytes_eq bytes (codes "var") then Some keyword.Var
     else None
 
+-- a keyword has this length and this first letter
+abbrev pub begins_keyword : ℕ → ℕ → Bool
+begins_keyword len first =
+    if len == 2 then first == 103 || first == 105
+    else if len == 3 then first == 102 || (first == 109 || first == 118)
+    else if len == 4 then first == 99 || (first == 101 || (first == 102 || (first == 103 || first == 116)))
+    else if len == 5 then first == 98 || (first == 99 || (first == 100 || first == 114))
+    else if len == 6 then first == 105 || (first == 114 || first == 115)
+    else if len == 7 then first == 100 || first == 112
+    else if len == 8 then first == 99
+    else if len == 9 then first == 105
+    else len == 11 && first == 102
+
 -- a letter may begin with a byte of the class
 abbrev pub IsWordClass : Class → Type 0
 IsWordClass k = (k ≡ Letter) ⊎ (k ≡ Wide)

@@ -17,7 +17,7 @@ pub enum Class {
     Mark,
 }
 
-#[inline]
+#[inline(always)]
 pub fn class_of(b: u8) -> Class
     ensures { result ≡ spec.class_of b }
 {

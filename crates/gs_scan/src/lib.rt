@@ -11,4 +11,5 @@ mod piece;
 mod quoted;
 mod rune;
 pub mod scan;
+mod step;
 mod word;

@@ -13,6 +13,7 @@ pub fn byte_at(bytes: &[u8], index: usize) -> u8
 }
 
 /// The longest operator that begins with the three bytes, and its length.
+#[inline(always)]
 pub fn operator_at(first: u8, second: u8, third: u8) -> Option<(Operator, usize)>
     ensures { result ≡ spec.operator_at first second third }
 {

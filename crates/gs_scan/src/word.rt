@@ -82,8 +82,41 @@ pub fn word_len(rest: &str) -> usize
     }
 }
 
+/// Whether a keyword has this length and this first letter.
+#[inline]
+fn begins_keyword(len: usize, first: u8) -> bool
+    ensures { result ≡ spec_reading.begins_keyword len first }
+{
+    match len {
+        2 => matches!(first, b'g' | b'i'),
+        3 => matches!(first, b'f' | b'm' | b'v'),
+        4 => matches!(first, b'c' | b'e' | b'f' | b'g' | b't'),
+        5 => matches!(first, b'b' | b'c' | b'd' | b'r'),
+        6 => matches!(first, b'i' | b'r' | b's'),
+        7 => matches!(first, b'd' | b'p'),
+        8 => first == b'c',
+        9 => first == b'i',
+        11 => first == b'f',
+        _ => false,
+    }
+}
+
 /// The keyword that a word is (Go specification, "Keywords").
+#[inline]
 pub fn keyword_of(word: &[u8]) -> Option<Keyword>
+    ensures value { result ≡ spec_reading.keyword_of word.now }
+    ensures found { IfSome result (λ k. word.now ≡ keyword_text k) }
+{
+    if begins_keyword(word.len(), byte_at(word, 0)) {
+        keyword_among(word)
+    } else {
+        None
+    }
+}
+
+/// The keyword that a word is, by comparison with each.
+#[inline(never)]
+fn keyword_among(word: &[u8]) -> Option<Keyword>
     ensures value { result ≡ spec_reading.keyword_of word.now }
     ensures found { IfSome result (λ k. word.now ≡ keyword_text k) }
 {
