@@ -1,0 +1,17 @@
+pub mod Runs
+pub mod Stays
+pub mod Depth
+pub mod DepthLocal
+pub mod Ranks
+pub mod SelectingStays
+pub mod Quiet
+pub mod Ways
+pub mod Twice
+pub mod Thinned
+pub mod LevelsLemmas
+pub mod SelectingQuiet
+pub mod Giving
+pub mod MethodSetsLemmas
+pub mod Examples
+pub mod Ids
+pub mod MethodLevels

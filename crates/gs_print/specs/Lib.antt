@@ -1,0 +1,4 @@
+pub mod Text
+pub mod Hover
+pub mod Front
+pub mod Adds

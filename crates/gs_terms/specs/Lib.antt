@@ -1,0 +1,9 @@
+pub mod Term
+pub mod Coding
+pub mod Shown
+pub mod TermFalls
+pub mod Number
+pub mod Identity
+pub mod Bare
+pub mod Constant
+pub mod Universe

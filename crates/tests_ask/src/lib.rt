@@ -1,0 +1,5 @@
+//! Tests of gs_ask.
+#![tactic(auto)]
+
+#[cfg(test)]
+mod importers;

@@ -1,0 +1,5 @@
+//! Tests of the number literals.
+#![tactic(auto)]
+
+#[cfg(test)]
+mod numbers;
