@@ -5,7 +5,7 @@
 #
 # What is timed is the call of scan for each text, from the text in memory to its list of tokens, with the names and the values
 # of strings that the tokens own. go/scanner hands out one token after the other and keeps none, so our time alone has the cost
-# of the list: 64 bytes a token, 333 MB for 20 MB of text. Nearly all of that is memory that the system hands out page by page
+# of the list: 32 bytes a token, 167 MB for 20 MB of text. Nearly all of that is memory that the system hands out page by page
 # as the list first reaches it; of a hundred texts each one takes the pages that the one before gave back.
 set -eu
 megabytes=${1:-20}

@@ -15,9 +15,11 @@ use crate::piece::Piece;
 use crate::quoted::{raw_at, text_at};
 use crate::rune::rune_at;
 use crate::word::{is_letter, keyword_of, word_len};
-use gs_base::{Mem, Text};
+use gs_base::Mem;
 use gs_numbers::number::{Number, number_at};
+use gs_syntax::name::Name;
 use gs_syntax::token::TokenKind;
+use gs_syntax::whole::Whole;
 use std::alloc::Global;
 
 /// The identifier or the keyword at the front, and its length.
@@ -32,7 +34,7 @@ fn word_at(alloc: Global, rest: &str) -> Mem<(Piece, usize)>
     match keyword_of(word.as_bytes()) {
         Some(keyword) => Ok((Piece::Token(TokenKind::Keyword(keyword)), len)),
         None => {
-            let name = Text::new(alloc, word)?;
+            let name = Name::front(alloc, rest, len)?;
             Ok((Piece::Token(TokenKind::Identifier(name)), len))
         }
     }
@@ -52,41 +54,42 @@ fn mark_at(rest: &str) -> (Piece, usize)
 }
 
 /// The token of a number.
-fn kind_of(number: Number) -> TokenKind
-    ensures { result ≡ pieces.kind_of number }
+fn kind_of(alloc: Global, number: Number) -> Mem<TokenKind>
+    ensures { IfOk result (λ kind. kind ≡ pieces.kind_of number) }
 {
     match number {
-        Number::Integer(value) => TokenKind::Integer(value),
-        Number::Float => TokenKind::Float,
-        Number::Imaginary => TokenKind::Imaginary,
+        Number::Integer(value) => Ok(TokenKind::Integer(Whole::new(alloc, value)?)),
+        Number::Float => Ok(TokenKind::Float),
+        Number::Imaginary => Ok(TokenKind::Imaginary),
     }
 }
 
 /// The number of `len` bytes at the front, spoiled where a letter or a digit follows it.
-fn counted_at(rest: &str, number: Number, len: usize) -> (Piece, usize)
+fn counted_at(alloc: Global, rest: &str, number: Number, len: usize) -> Mem<(Piece, usize)>
     requires begins { IsTrue (spec.is_number_class (spec.class_of (slice_index rest.now 0))) }
     requires longest { IsLongestNumber rest.now number len }
-    ensures stands { StandsAt rest.now (lexeme_of result.0) result.1 }
-    ensures boundary { IsCharBoundary rest.now result.1 }
+    ensures stands { IfOk result (λ r. StandsAt rest.now (lexeme_of r.0) r.1) }
+    ensures boundary { IfOk result (λ r. IsCharBoundary rest.now r.1) }
 {
     let (_, after) = rest.split_at(len);
     let more = word_len(after);
     if more == 0 {
-        (Piece::Token(kind_of(number)), len)
+        let kind = kind_of(alloc, number)?;
+        Ok((Piece::Token(kind), len))
     } else {
-        (Piece::Token(TokenKind::Bad), len + more)
+        Ok((Piece::Token(TokenKind::Bad), len + more))
     }
 }
 
 /// What begins with a digit or a point: a number, or an operator.
-fn digit_at(rest: &str) -> (Piece, usize)
+fn digit_at(alloc: Global, rest: &str) -> Mem<(Piece, usize)>
     requires { IsTrue (spec.is_number_class (spec.class_of (slice_index rest.now 0))) }
-    ensures stands { StandsAt rest.now (lexeme_of result.0) result.1 }
-    ensures boundary { IsCharBoundary rest.now result.1 }
+    ensures stands { IfOk result (λ r. StandsAt rest.now (lexeme_of r.0) r.1) }
+    ensures boundary { IfOk result (λ r. IsCharBoundary rest.now r.1) }
 {
     match number_at(rest.as_bytes()) {
-        Some((number, len)) => counted_at(rest, number, len),
-        None => mark_at(rest),
+        Some((number, len)) => counted_at(alloc, rest, number, len),
+        None => Ok(mark_at(rest)),
     }
 }
 
@@ -196,7 +199,7 @@ pub fn piece_at(alloc: Global, rest: &str) -> Mem<(Piece, usize)>
         Class::LineFeed => Ok((Piece::LineEnd, 1)),
         Class::Letter => word_at(alloc, rest),
         Class::Wide => wide_at(alloc, rest),
-        Class::Digit | Class::Dot => Ok(digit_at(rest)),
+        Class::Digit | Class::Dot => digit_at(alloc, rest),
         Class::Quote => text_quoted_at(alloc, rest),
         Class::Apostrophe => Ok(rune_quoted_at(rest)),
         Class::BackQuote => raw_quoted_at(alloc, rest),

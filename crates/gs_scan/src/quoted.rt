@@ -8,7 +8,7 @@ use crate::blank::len_until;
 use crate::escape::{Item, item_at};
 use crate::mark::byte_at;
 use gs_base::Mem;
-use sqlite_items::Items;
+use gs_syntax::bytes::Bytes;
 use std::alloc::{AllocError, Global};
 
 /// Adds what an item stands for to a string's value.
@@ -30,7 +30,7 @@ fn push_item(value: &mut Vec<u8>, item: Item) -> Result<(), AllocError>
 }
 
 /// The value and the length of the string at the front, if there is one.
-pub fn text_at(alloc: Global, rest: &[u8]) -> Mem<Option<(Items<u8>, usize)>>
+pub fn text_at(alloc: Global, rest: &[u8]) -> Mem<Option<(Bytes, usize)>>
     requires { slice_index rest.now 0 ≡ 34 }
     ensures { IfOk result (λ found. MatchOption found (NoFront IsText rest.now) (λ r. IsOnlyFront IsText rest.now r.0 r.1)) }
 {
@@ -41,7 +41,8 @@ pub fn text_at(alloc: Global, rest: &[u8]) -> Mem<Option<(Items<u8>, usize)>>
         at += len;
     }
     if byte_at(rest, at) == b'"' {
-        Ok(Some((Items::from_vec(value), at + 1)))
+        let value = Bytes::from_vec(alloc, value)?;
+        Ok(Some((value, at + 1)))
     } else {
         Ok(None)
     }
@@ -55,7 +56,7 @@ fn without_returns(alloc: Global, text: &[u8]) -> Result<Vec<u8>, AllocError>
 }
 
 /// The value and the length of the raw string at the front, if something closes it.
-pub fn raw_at(alloc: Global, rest: &[u8]) -> Mem<Option<(Items<u8>, usize)>>
+pub fn raw_at(alloc: Global, rest: &[u8]) -> Mem<Option<(Bytes, usize)>>
     requires { slice_index rest.now 0 ≡ 96 }
     ensures { IfOk result (λ found. MatchOption found (IsOpenRawText rest.now) (λ r. IsOnlyFront IsRawText rest.now r.0 r.1)) }
 {
@@ -65,6 +66,6 @@ pub fn raw_at(alloc: Global, rest: &[u8]) -> Mem<Option<(Items<u8>, usize)>>
         return Ok(None);
     }
     let (text, _) = inside.split_at(len);
-    let value = without_returns(alloc, text)?;
-    Ok(Some((Items::from_vec(value), len + 2)))
+    let value = Bytes::from_vec(alloc, without_returns(alloc, text)?)?;
+    Ok(Some((value, len + 2)))
 }

@@ -12,7 +12,8 @@ use crate::front::piece_at;
 use crate::mark::{byte_at, operator_at};
 use crate::piece::Piece;
 use crate::word::{keyword_of, word_len};
-use gs_base::{Mem, Text};
+use gs_base::Mem;
+use gs_syntax::name::Name;
 use gs_syntax::token::{Keyword, Operator, Span, Token, TokenKind};
 use std::alloc::{AllocError, Global};
 
@@ -113,7 +114,7 @@ fn word_step(alloc: Global, tokens: &mut Vec<Token>, at: u32, rest: &str) -> Mem
     match keyword_of(word.as_bytes()) {
         Some(keyword) => Ok(add(tokens, TokenKind::Keyword(keyword), at, len)?),
         None => {
-            let name = Text::new(alloc, word)?;
+            let name = Name::front(alloc, rest, len)?;
             Ok(add(tokens, TokenKind::Identifier(name), at, len)?)
         }
     }

@@ -1,3 +1,4 @@
+pub mod Held
 pub mod Kinds
 pub mod Words
 pub mod Digits

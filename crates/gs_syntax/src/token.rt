@@ -1,7 +1,9 @@
 //! What a token is.
 
-use gs_base::Text;
-use sqlite_items::Items;
+use crate::bytes::Bytes;
+use crate::name::Name;
+use crate::whole::Whole;
+use std::mem::size_of;
 
 /// A place in a text: where it begins and how long it is, in bytes.
 #[derive(Clone, Copy, Debug, PartialEq, Eq)]
@@ -17,20 +19,23 @@ pub struct Token {
     pub span: Span,
 }
 
+/// A text has a token for every four bytes or so, and its list of tokens is no larger than it need be.
+const _: () = prove!(size_of::<Token>() == 32);
+
 /// What a token is (Go specification, "Tokens").
 #[derive(Debug, Drop)]
 pub enum TokenKind {
-    Identifier(Text),
+    Identifier(Name),
     Keyword(Keyword),
     Operator(Operator),
     /// An integer literal, with its value where that is at most 2^127 - 1.
-    Integer(Option<i128>),
+    Integer(Whole),
     Float,
     Imaginary,
     /// A rune literal, with its code.
     Rune(u32),
     /// A string literal, with the bytes of its value.
-    Text(Items<u8>),
+    Text(Bytes),
     /// What is no token of the language.
     Bad,
     /// A semicolon that is inserted at the end of a line. Its length is 0.

@@ -23,8 +23,10 @@ fn shown(alloc: Global, kind: &TokenKind) -> Result<String, Fail> {
         }
         TokenKind::Keyword(keyword) => format!(in alloc; "{keyword:?}")?,
         TokenKind::Operator(operator) => format!(in alloc; "{operator:?}")?,
-        TokenKind::Integer(Some(value)) => format!(in alloc; "{value}")?,
-        TokenKind::Integer(None) => format!(in alloc; "wide")?,
+        TokenKind::Integer(value) => match value.get() {
+            Some(value) => format!(in alloc; "{value}")?,
+            None => format!(in alloc; "wide")?,
+        },
         TokenKind::Float => format!(in alloc; "float")?,
         TokenKind::Imaginary => format!(in alloc; "imaginary")?,
         TokenKind::Rune(code) => format!(in alloc; "rune {code}")?,
@@ -33,7 +35,7 @@ fn shown(alloc: Global, kind: &TokenKind) -> Result<String, Fail> {
             for b in value.as_slice() {
                 text.push_str(format!(in alloc; " {b:02x}")?.as_str())?;
             }
-            if value.is_empty() {
+            if value.as_slice().is_empty() {
                 text.push(' ')?;
             }
             text
@@ -67,7 +69,7 @@ fn each_gives(rt: &impl Abort, alloc: Global, cases: &[(&str, &str)]) -> Result<
     Ok(())
 }
 
-const IDENTIFIERS_AND_KEYWORDS: [(&str, &str); 15] = [
+const IDENTIFIERS_AND_KEYWORDS: [(&str, &str); 19] = [
     ("x", "x@0+1 ;@1+0"),
     ("_x9", "_x9@0+3 ;@3+0"),
     ("a\u{3b1}", "a\\u{3b1}@0+3 ;@3+0"),
@@ -79,6 +81,13 @@ const IDENTIFIERS_AND_KEYWORDS: [(&str, &str); 15] = [
     ("x\u{301}", "x@0+1 bad@1+2 ;@3+0"),
     ("\u{1f600}", "bad@0+4 ;@4+0"),
     ("a\u{1f600}b", "a@0+1 bad@1+4 b@5+1 ;@6+0"),
+    ("abcdefghijklm", "abcdefghijklm@0+13 ;@13+0"),
+    ("abcdefghijklmn", "abcdefghijklmn@0+14 ;@14+0"),
+    ("abcdefghijklmno", "abcdefghijklmno@0+15 ;@15+0"),
+    (
+        "abcdefghijklm_nopq abcdefghijkl\u{3b1} abcdefghijklm\u{3b1}",
+        "abcdefghijklm_nopq@0+18 abcdefghijkl\\u{3b1}@19+14 abcdefghijklm\\u{3b1}@34+15 ;@49+0",
+    ),
     ("iff if", "iff@0+3 If@4+2"),
     ("func(", "Func@0+4 LeftParen@4+1"),
     (
@@ -96,13 +105,17 @@ fn identifiers_and_keywords(rt: HostRuntime) -> Result<(), Fail> {
     each_gives(&rt, rt.alloc(), &IDENTIFIERS_AND_KEYWORDS)
 }
 
-const NUMBERS: [(&str, &str); 31] = [
+const NUMBERS: [(&str, &str); 32] = [
     ("0", "0@0+1 ;@1+0"),
     ("4_2", "42@0+3 ;@3+0"),
     ("0_600", "384@0+5 ;@5+0"),
     ("0o17", "15@0+4 ;@4+0"),
     ("0B101", "5@0+5 ;@5+0"),
     ("0xBad_Face", "195951310@0+10 ;@10+0"),
+    (
+        "18446744073709551615 18446744073709551616",
+        "18446744073709551615@0+20 18446744073709551616@21+20 ;@41+0",
+    ),
     (
         "170141183460469231731687303715884105727",
         "170141183460469231731687303715884105727@0+39 ;@39+0",
@@ -187,9 +200,17 @@ fn runes(rt: HostRuntime) -> Result<(), Fail> {
     each_gives(&rt, rt.alloc(), &RUNES)
 }
 
-const STRINGS: [(&str, &str); 24] = [
+const STRINGS: [(&str, &str); 26] = [
     ("\"\"", "text @0+2 ;@2+0"),
     ("\"abc\"", "text 61 62 63@0+5 ;@5+0"),
+    (
+        "\"abcdefghijklmn\" `abcdefghijklmn`",
+        "text 61 62 63 64 65 66 67 68 69 6a 6b 6c 6d 6e@0+16 text 61 62 63 64 65 66 67 68 69 6a 6b 6c 6d 6e@17+16 ;@33+0",
+    ),
+    (
+        "\"abcdefghijklm\\nn\" `abcdefghijklmno`",
+        "text 61 62 63 64 65 66 67 68 69 6a 6b 6c 6d 0a 6e@0+18 text 61 62 63 64 65 66 67 68 69 6a 6b 6c 6d 6e 6f@19+17 ;@36+0",
+    ),
     ("\"\u{65e5}\"", "text e6 97 a5@0+5 ;@5+0"),
     (
         "\"\\u65e5\\U00008a9e\"",

@@ -7,14 +7,14 @@ use Rattle.gs_scan.proofs.front.counted_at.Goals as goal
 pub split_at-requires : goal.split_at-requires
 split_at-requires c = number_boundary c.args.rest.now c.args.len c.args.number c.utf8.rest c.requires.longest
 
-pub returns-then-more-eq0-clause-stands : goal.returns-then-more-eq0-clause-stands
-returns-then-more-eq0-clause-stands c =
-    subst (λ k. StandsAt c.args.rest.now (lexeme.Token k) c.args.len) (sym c.kind_of.ensures)
+pub returns-in_ok-kind-clause-stands : goal.returns-in_ok-kind-clause-stands
+returns-in_ok-kind-clause-stands c =
+    subst (λ k. StandsAt c.args.rest.now (lexeme.Token k) c.args.len) (sym c.in_ok-kind.ensures)
     (number_stands c.args.rest.now c.split_at.result.1.now c.args.len c.args.number c.utf8.rest c.requires.begins c.requires.longest
     c.split_at.ensures.back (sym c.word_len-more.ensures.size ∙ c.if-more-eq0.true))
 
-pub returns-then-more-eq0-clause-boundary : goal.returns-then-more-eq0-clause-boundary
-returns-then-more-eq0-clause-boundary c = number_boundary c.args.rest.now c.args.len c.args.number c.utf8.rest c.requires.longest
+pub returns-in_ok-kind-clause-boundary : goal.returns-in_ok-kind-clause-boundary
+returns-in_ok-kind-clause-boundary c = number_boundary c.args.rest.now c.args.len c.args.number c.utf8.rest c.requires.longest
 
 pub returns-else-more-eq0-clause-stands : goal.returns-else-more-eq0-clause-stands
 returns-else-more-eq0-clause-stands c =

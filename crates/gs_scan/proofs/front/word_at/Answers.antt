@@ -9,4 +9,4 @@ returns-in-Some-clause-stands c =
 
 pub returns-in_ok-name-in-None-clause-stands : goal.returns-in_ok-name-in-None-clause-stands
 returns-in_ok-name-in-None-clause-stands c =
-    identifier_stands_at _ _ _ _ c.utf8.rest c.requires.letter c.requires.class c.word_len-len.ensures.size c.split_at.ensures.front (ap keyword_of (sym c.as_bytes.ensures.value) ∙ sym c.in-None.ensures.value) c.in_ok-name-in-None.ensures
+    identifier_stands_at _ _ _ _ c.utf8.rest c.requires.letter c.requires.class c.word_len-len.ensures.size c.split_at.ensures.front (ap keyword_of (sym c.as_bytes.ensures.value) ∙ sym c.in-None.ensures.value) (c.in_ok-name-in-None.ensures ∙ sym c.split_at.ensures.front)

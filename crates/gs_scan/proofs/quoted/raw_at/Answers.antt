@@ -7,5 +7,5 @@ returns-then-len-inside c = raw_open c.args.rest.now c.split_at.result.1.now c.l
 
 pub returns : goal.returns
 returns c =
-    raw_front c.args.rest.now c.split_at.result.1.now c.split_at-2.result.0.now c.from_vec.result c.len_until-len.result
-    c.requires c.split_at.ensures.back c.len_until-len.ensures.size c.if-len-inside.false c.split_at-2.ensures.front (c.from_vec.ensures ∙ c.in_ok-value.ensures)
+    raw_front c.args.rest.now c.split_at.result.1.now c.split_at-2.result.0.now c.in_ok-value.value c.len_until-len.result
+    c.requires c.split_at.ensures.back c.len_until-len.ensures.size c.if-len-inside.false c.split_at-2.ensures.front (c.in_ok-value.ensures ∙ c.in_ok-without_returns.ensures)

@@ -18,8 +18,8 @@ loop-item-smaller c = let h = (next c).within in let p = item_spelled (drop c.lo
 pub loop-item-preserved : goal.loop-item-preserved
 loop-item-preserved c = next c
 
-pub returns-then-byte_at-eq34 : goal.returns-then-byte_at-eq34
-returns-then-byte_at-eq34 c = subst (λ l. IsOnlyFront IsText c.args.rest.now l (c.loop-item.at + 1)) (sym c.from_vec.ensures)
+pub returns-in_ok-value : goal.returns-in_ok-value
+returns-in_ok-value c = subst (λ l. IsOnlyFront IsText c.args.rest.now l (c.loop-item.at + 1)) (sym c.in_ok-value.ensures)
     (text_front c.args.rest.now c.loop-item.value.items (take (length c.args.rest.now - c.loop-item.at) (drop c.loop-item.at c.args.rest.now)) c.loop-item.at (c.loop-item.at + 1) c.loop-item.invariant (range_from c.args.rest.now c.loop-item.at) (sym c.item_at.ensures ∙ c.in_default.is) (sym c.byte_at.ensures ∙ c.if-byte_at-eq34.true) refl)
 
 pub returns-else-byte_at-eq34 : goal.returns-else-byte_at-eq34

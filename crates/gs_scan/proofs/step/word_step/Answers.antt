@@ -15,4 +15,4 @@ pub returns-in_ok-add-in-None-clause-adds : goal.returns-in_ok-add-in-None-claus
 returns-in_ok-add-in-None-clause-adds c =
     let done = c.in_ok-add-in-None.ensures in
     token_adds _ _ _ _ _ _ _ _ done.len (identifier_stands_at _ _ _ _ c.utf8.rest (letter_text _ c.requires.class) (inl c.requires.class)
-    c.word_len-len.ensures.size c.split_at.ensures.front (ap keyword_of (sym c.as_bytes.ensures.value) ∙ sym c.in-None.ensures.value) c.in_ok-name-in-None.ensures) done.added done.end
+    c.word_len-len.ensures.size c.split_at.ensures.front (ap keyword_of (sym c.as_bytes.ensures.value) ∙ sym c.in-None.ensures.value) (c.in_ok-name-in-None.ensures ∙ sym c.split_at.ensures.front)) done.added done.end
