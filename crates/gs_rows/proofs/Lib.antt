@@ -1,0 +1,3 @@
+pub mod Defines
+pub mod Filling
+pub mod Receivers
