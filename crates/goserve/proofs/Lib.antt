@@ -3,5 +3,4 @@ mod Placing
 mod Naming
 mod Reporting
 mod Forming
-mod Fewness
-mod Ending
+mod Taking

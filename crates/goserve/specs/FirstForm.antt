@@ -1,5 +1,5 @@
 -- The first form: the files that the program checks so far. They are constants and variables, each of a name or a number.
-use Rattle.std.specs.Prelude.{◌≡◌, ℕ, ◌+◌, ◌≤◌, Bool, true, false, not, ◌&&◌, ◌||◌, ◌==◌, nat_le, nat_lt, List, [], ◌∷◌, length, codes, Contains, Option, Some, None}
+use Rattle.std.specs.Prelude.{◌≡◌, ℕ, ◌+◌, Bool, true, false, not, ◌&&◌, ◌||◌, ◌==◌, nat_le, nat_lt, List, [], ◌∷◌, length, codes, Contains, Option, Some, None}
 use Rattle.std.specs.List.{list_all, slice_range}
 use Rattle.std.specs.Option.{is_some}
 use Rattle.std.specs.Str.{bytes_eq, IsAscii}
@@ -15,9 +15,8 @@ use Rattle.gs_rules.specs.Universe.{is_universe}
 use Rattle.gs_rules.specs.Trees.{Right, Named, Number, Declaration, is_name}
 use Rattle.gs_rules.specs.Files.{declarations_of, is_declared, lookup_of}
 
--- at most 65,536 bytes of ASCII, and none of them a `/`: no token of the first form has one, and each comment begins with one
+-- ASCII alone, and none of the bytes a `/`: no token of the first form has one, and each comment begins with one
 pub record IsPlainText (input : List ℕ) : Type 0 where
-  pub size : length input ≤ 65536
   pub ascii : IsAscii input
   pub comments : Contains input 47 → ⊥
 

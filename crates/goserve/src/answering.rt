@@ -1,23 +1,23 @@
 //! What is answered to an input.
 
-ghost use Rattle.std.specs.Prelude.{◌≡◌, map, IfOk};
+ghost use Rattle.std.specs.Prelude.{◌≡◌, ◌≢◌, ◌≤◌, [], length, IfOk};
 ghost use Rattle.gs_syntax.specs.Tokens.{AreTokens};
-ghost use Rattle.gs_syntax.specs.Chunks.{chunks_of};
-ghost use Rattle.gs_rules.specs.Files.{declarations_of as declarations_are};
-ghost use Rattle.goserve.specs.Answers.{HasAnswered, IsReport};
-ghost use Rattle.goserve.specs.FirstForm.{IsFirstForm, IsPlainText};
-ghost use Rattle.goserve.specs.Seen.{seen, HasNames};
+ghost use Rattle.gs_parse.specs.Files.{HasFaults};
+ghost use Rattle.goserve.specs.Answers.{AreFaults, HasAnswered, IsReport, IsWellFormed};
+ghost use Rattle.goserve.specs.FirstForm.{IsPlainText};
+ghost use Rattle.goserve.specs.Moves.{most_input};
 
-use crate::chunk::Declaration;
-use crate::file::{declarations_of, faults_of};
+use crate::file::{declarations_of, form_faults, right_faults};
 use crate::form::{have_form, names_of, plain_text};
 use crate::line::output;
-use crate::names::Names;
 use gs_base::Mem;
+use gs_parse::faults::faults;
+use gs_parse::laws::few_tokens;
+use gs_rules::fault::Fault;
 use gs_scan::chunk::chunks;
 use gs_scan::scan::scan;
 use gs_syntax::laws::one_list;
-use gs_syntax::token::Token;
+use gs_syntax::token::{Span, Token};
 use std::alloc::Global;
 
 /// The name under which the standard input is checked.
@@ -30,36 +30,39 @@ pub struct Report {
     pub clean: bool,
 }
 
-/// What is written for an input in the first form.
-fn make_report(
-    alloc: Global,
-    input: &[u8],
-    tokens: &[Token],
-    places: &[(u32, u32)],
-    declarations: &[Declaration<'_>],
-    names: &Names<'_>,
-) -> Mem<Report>
-    requires form { IsFirstForm input.now tokens.now }
-    requires places { places.now ≡ chunks_of tokens.now }
-    requires declarations { map seen declarations.now ≡ declarations_are tokens.now }
-    requires names { HasNames names.now (declarations_are tokens.now) }
+/// What is written for an input with these faults.
+fn make_report(alloc: Global, input: &[u8], faults: &[Fault]) -> Mem<Report>
+    requires size { length input.now ≤ most_input }
+    requires faults { AreFaults input.now faults.now }
     ensures { IfOk result (IsReport input.now) }
 {
-    let faults = faults_of(alloc, FILE, tokens, places, declarations, names)?;
-    let found = faults.as_slice();
-    let output = output(alloc, input, found)?;
+    let output = output(alloc, input, faults)?;
     Ok(Report {
         output,
-        clean: found.is_empty(),
+        clean: faults.is_empty(),
     })
 }
 
-/// What an input with these tokens is answered.
+/// What is written for an input whose form has faults.
+fn report_form(alloc: Global, input: &[u8], found: &[(u16, Span)]) -> Mem<Report>
+    requires size { length input.now ≤ most_input }
+    requires found { HasFaults input.now found.now }
+    requires faulty { found.now ≢ [] }
+    ensures { IfOk result (IsReport input.now) }
+{
+    let faults = form_faults(alloc, FILE, found)?;
+    make_report(alloc, input, faults.as_slice())
+}
+
+/// What a well-formed input with these tokens is answered.
 fn answer_tokens(alloc: Global, input: &[u8], tokens: &[Token]) -> Mem<Option<Report>>
+    requires size { length input.now ≤ most_input }
+    requires form { IsWellFormed input.now }
     requires text { IsPlainText input.now }
     requires scanned { AreTokens input.now tokens.now }
     ensures { IfOk result (HasAnswered input.now) }
 {
+    few_tokens();
     one_list();
     if !have_form(input, tokens) {
         return Ok(None);
@@ -68,19 +71,17 @@ fn answer_tokens(alloc: Global, input: &[u8], tokens: &[Token]) -> Mem<Option<Re
     let declarations = declarations_of(alloc, tokens, places.as_slice())?;
     match names_of(alloc, declarations.as_slice())? {
         None => Ok(None),
-        Some(names) => Ok(Some(make_report(
-            alloc,
-            input,
-            tokens,
-            places.as_slice(),
-            declarations.as_slice(),
-            &names,
-        )?)),
+        Some(names) => {
+            let faults = right_faults(alloc, FILE, &names, declarations.as_slice())?;
+            Ok(Some(make_report(alloc, input, faults.as_slice())?))
+        }
     }
 }
 
-/// What an input is answered. None: it is not in the first form.
-pub fn answer(alloc: Global, input: &[u8]) -> Mem<Option<Report>>
+/// What a well-formed input is answered.
+fn answer_text(alloc: Global, input: &[u8]) -> Mem<Option<Report>>
+    requires size { length input.now ≤ most_input }
+    requires form { IsWellFormed input.now }
     ensures { IfOk result (HasAnswered input.now) }
 {
     match plain_text(input) {
@@ -89,5 +90,19 @@ pub fn answer(alloc: Global, input: &[u8]) -> Mem<Option<Report>>
             let tokens = scan(alloc, text)?;
             answer_tokens(alloc, input, tokens.as_slice())
         }
+    }
+}
+
+/// What an input is answered. None: it has no fault of its form, and is not in the first form.
+pub fn answer(alloc: Global, input: &[u8]) -> Mem<Option<Report>>
+    requires { length input.now ≤ most_input }
+    ensures { IfOk result (HasAnswered input.now) }
+{
+    let list = faults(alloc, input)?;
+    let found = list.as_slice();
+    if found.is_empty() {
+        answer_text(alloc, input)
+    } else {
+        Ok(Some(report_form(alloc, input, found)?))
     }
 }

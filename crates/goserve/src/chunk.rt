@@ -1,11 +1,11 @@
-//! Chunks: the package clause and the declarations.
+//! Chunks that are declarations.
 
 ghost use Rattle.std.specs.Prelude.{◌≡◌};
 ghost use Rattle.std.specs.Option.{option_map, option_copied};
 ghost use Rattle.gs_rules.specs.Trees as tree;
 ghost use Rattle.goserve.specs.Seen.{seen, seen_right};
 
-use crate::token::{is_assign, is_const, is_name, is_package, is_semicolon, is_var, name_of};
+use crate::token::{is_assign, is_const, is_semicolon, is_var, name_of};
 use gs_syntax::token::{Span, Token, TokenKind};
 
 /// What stands on the right of a declaration: a name, and where it stands, or a number.
@@ -21,18 +21,6 @@ pub struct Declaration<'a> {
     pub constant: bool,
     pub name: &'a str,
     pub right: Right<'a>,
-}
-
-/// Whether a chunk is a package clause.
-pub fn is_clause(chunk: &[Token]) -> bool
-    ensures { result ≡ tree.is_clause chunk.now }
-{
-    match chunk {
-        [word, name, end] => {
-            is_package(&word.kind) && (is_name(&name.kind) && is_semicolon(&end.kind))
-        }
-        _ => false,
-    }
 }
 
 /// What a token is on the right of a declaration.

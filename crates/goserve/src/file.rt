@@ -4,11 +4,11 @@ ghost use Rattle.std.specs.Prelude.{◌≡◌, ◌++◌, [], ◌∷◌, map, IfO
 ghost use Rattle.gs_syntax.specs.Chunks.{chunks_of};
 ghost use Rattle.std.specs.Option.{option_to_list};
 ghost use Rattle.gs_rules.specs.Trees.{declaration_of as declaration_is};
-ghost use Rattle.gs_rules.specs.Files.{parts_of, part_of, declarations_in, declarations_of as declarations_are};
+ghost use Rattle.gs_rules.specs.Files.{parts_of, part_of, lookup_of, declarations_in, declarations_of as declarations_are};
 ghost use Rattle.gs_rules.specs.Faults as spec;
 ghost use Rattle.goserve.specs.Seen.{found, seen, seen_right, HasNames};
 
-use crate::chunk::{Declaration, Right, declaration_of, is_clause};
+use crate::chunk::{Declaration, Right, declaration_of};
 use crate::names::{Names, is_declared};
 use crate::part::part;
 use gs_base::Mem;
@@ -75,71 +75,15 @@ fn put(faults: &mut Vec<Fault>, fault: Fault) -> Result<(), AllocError>
     Ok(())
 }
 
-/// The span of the first token, or of nothing at the start.
-fn first_span(chunk: &[Token]) -> Span
-    ensures { result ≡ spec.first_span chunk.now }
+/// The faults of a file's form, as they are told.
+pub fn form_faults(alloc: Global, file: &str, faults: &[(u16, Span)]) -> Mem<Vec<Fault>>
+    ensures { IfOk result (λ v. v.items ≡ spec.form_faults file.now faults.now) }
 {
-    match chunk {
-        [] => Span {
-            offset: 0,
-            length: 0,
-        },
-        [first, ..] => first.span,
+    let mut told = Vec::new(alloc);
+    for fault in faults {
+        put(&mut told, Fault::of_form(alloc, file, *fault)?)?;
     }
-}
-
-/// Adds the fault of a chunk that is not what it must be.
-fn put_chunk_fault(
-    alloc: Global,
-    faults: &mut Vec<Fault>,
-    file: &str,
-    fits: bool,
-    chunk: &[Token],
-) -> Mem<()>
-    ensures { OnOk result (faults.new.items ≡ faults.old.items ++ spec.chunk_fault file.now fits chunk.now) }
-{
-    if !fits {
-        put(faults, Fault::syntax_error(alloc, file, first_span(chunk))?)?;
-    }
-    Ok(())
-}
-
-/// Adds the faults of the chunks behind the first.
-fn put_later_faults(
-    alloc: Global,
-    faults: &mut Vec<Fault>,
-    file: &str,
-    tokens: &[Token],
-    places: &[(u32, u32)],
-) -> Mem<()>
-    ensures { OnOk result (faults.new.items ≡ faults.old.items ++ spec.later_faults file.now (parts_of tokens.now places.now)) }
-{
-    for place in places {
-        let chunk = part_at(tokens, *place);
-        let fits = declaration_of(chunk).is_some();
-        put_chunk_fault(alloc, faults, file, fits, chunk)?;
-    }
-    Ok(())
-}
-
-/// Adds the faults of the chunks.
-fn put_chunk_faults(
-    alloc: Global,
-    faults: &mut Vec<Fault>,
-    file: &str,
-    tokens: &[Token],
-    places: &[(u32, u32)],
-) -> Mem<()>
-    ensures { OnOk result (faults.new.items ≡ faults.old.items ++ spec.chunk_faults file.now (parts_of tokens.now places.now)) }
-{
-    match places.split_first() {
-        None => put_chunk_fault(alloc, faults, file, false, &[]),
-        Some((first, later)) => {
-            let chunk = part_at(tokens, *first);
-            put_chunk_fault(alloc, faults, file, is_clause(chunk), chunk)?;
-            put_later_faults(alloc, faults, file, tokens, later)
-        }
-    }
+    Ok(told)
 }
 
 /// Adds the fault of a right side that nothing declares.
@@ -179,25 +123,17 @@ fn put_right_faults(
     Ok(())
 }
 
-/// The faults of a file with these tokens, chunks, declarations and names.
-#[tactic(auto, unfolding(gs_rules::specs::Faults::faults_of))]
-pub fn faults_of(
+/// The faults of the right sides of declarations with these names.
+pub fn right_faults(
     alloc: Global,
     file: &str,
-    tokens: &[Token],
-    places: &[(u32, u32)],
-    declarations: &[Declaration<'_>],
     names: &Names<'_>,
+    declarations: &[Declaration<'_>],
 ) -> Mem<Vec<Fault>>
-    requires places { places.now ≡ chunks_of tokens.now }
-    requires declarations { map seen declarations.now ≡ declarations_are tokens.now }
-    requires names { HasNames names.now (declarations_are tokens.now) }
-    ensures { IfOk result (λ v. v.items ≡ spec.faults_of file.now tokens.now) }
+    requires { HasNames names.now (map seen declarations.now) }
+    ensures { IfOk result (λ v. v.items ≡ spec.right_faults file.now (lookup_of (map seen declarations.now)) (map seen declarations.now)) }
 {
     let mut faults = Vec::new(alloc);
-    put_chunk_faults(alloc, &mut faults, file, tokens, places)?;
-    if faults.is_empty() {
-        put_right_faults(alloc, &mut faults, file, names, declarations)?;
-    }
+    put_right_faults(alloc, &mut faults, file, names, declarations)?;
     Ok(faults)
 }

@@ -15,14 +15,14 @@ use gs_syntax::token::Token;
 use std::alloc::{AllocError, Global};
 use std::collections::BTreeMap;
 
-/// Whether an input has at most 65,536 bytes of ASCII and no `/`.
+/// Whether an input has ASCII alone and no `/`.
 fn is_plain_text(input: &[u8]) -> bool
     ensures { IsTrue result ↔ IsPlainText input.now }
 {
-    input.len() <= 65_536 && (input.is_ascii() && !input.contains(&b'/'))
+    input.is_ascii() && !input.contains(&b'/')
 }
 
-/// The text of an input, if it has at most 65,536 bytes of ASCII and no `/`.
+/// The text of an input, if it has ASCII alone and no `/`.
 pub fn plain_text(input: &[u8]) -> Option<&str>
     ensures { MatchOption result (IsPlainText input.entry.now → ⊥) (λ text. IsPlainText input.entry.now × (text.now ≡ input.entry.now)) }
 {

@@ -2,6 +2,7 @@
 
 ghost use Rattle.std.specs.Prelude.{◌≡◌, ◌≤◌, ◌<◌, ◌+◌, ◌^◌, ◌++◌, length, OnOk, IfOk};
 ghost use Rattle.gs_rules.specs.Lines as spec;
+ghost use Rattle.goserve.specs.Moves.{most_input};
 
 use crate::part::part;
 use gs_rules::fault::Fault;
@@ -29,7 +30,7 @@ fn place_behind(start: Place, bytes: &[u8]) -> Place
 /// The place of an offset, from the place of another one. It is carried on from there, or begins at the front again where
 /// the other lies behind it.
 fn place_at(input: &[u8], from: usize, place: Place, at: usize) -> Place
-    requires size { length input.now ≤ 65536 }
+    requires size { length input.now ≤ most_input }
     requires place { place ≡ spec.place_of input.now from }
     ensures { result ≡ spec.place_of input.now at }
 {
@@ -99,7 +100,7 @@ fn put_faults(
     input: &[u8],
     faults: &[Fault],
 ) -> Result<(), AllocError>
-    requires { length input.now ≤ 65536 }
+    requires { length input.now ≤ most_input }
     ensures { OnOk result (out.new.items ≡ out.old.items ++ spec.lines_of input.now faults.now) }
 {
     let mut offset = 0usize;
@@ -138,9 +139,10 @@ fn put_counts(
 }
 
 /// What is written for one file with these faults.
+#[tactic(auto, unfolding(gs_rules::specs::Lines::output_of))]
 pub fn output(alloc: Global, input: &[u8], faults: &[Fault]) -> Result<Vec<u8>, AllocError>
-    requires { length input.now ≤ 65536 }
-    ensures { IfOk result (λ v. v.items ≡ spec.lines_of input.now faults.now ++ spec.counts_line 1 1 0 (length faults.now)) }
+    requires { length input.now ≤ most_input }
+    ensures { IfOk result (λ v. v.items ≡ spec.output_of input.now faults.now) }
 {
     let mut out = Vec::new(alloc);
     put_faults(&mut out, alloc, input, faults)?;

@@ -3,11 +3,12 @@
 ghost use Rattle.std.specs.Prelude.{◌≡◌, ◌≢◌, ◌↔◌, ◌≤◌, IsTrue, codes, length};
 ghost use Rattle.std.specs.Io.KnownBytes.{Keeps, IsAtEnd};
 ghost use Rattle.gs_outside.specs.Causes.{Rose};
+ghost use Rattle.goserve.specs.Moves.{most_input};
 ghost use Rattle.goserve.specs.Words.{IsCommand};
 ghost use Rattle.goserve.specs.Runs.{Concluded, HasChecked, HasEnded, HasCounts, IsFinished};
 
 use crate::answering::answer;
-use crate::reading::read_input;
+use crate::reading::{Reading, read_input};
 use crate::status::Status;
 use crate::writing::write_output;
 use gs_outside::{Sink, Source};
@@ -40,8 +41,10 @@ fn is_command(words: &[String]) -> bool
 
 /// Writes what an input is answered.
 fn conclude<K: Sink>(alloc: Global, input: &[u8], sink: &mut K) -> Status
+    requires { length input.now ≤ most_input }
     ensures concluded { Concluded input.now (K.written sink.old) (K.written sink.new) result }
     ensures read { result ≢ Status.ReadFailed }
+    ensures long { result ≢ Status.TooLong }
     ensures write { result ≡ Status.WriteFailed → Rose (K.faults sink.old) (K.faults sink.new) }
     ensures later { K.faults sink.old ≤ K.faults sink.new }
 {
@@ -61,30 +64,7 @@ fn conclude<K: Sink>(alloc: Global, input: &[u8], sink: &mut K) -> Status
     }
 }
 
-/// Reads an input into the buffer, and writes what it is answered.
-fn check_input<S: Source, K: Sink>(
-    alloc: Global,
-    buffer: &mut [u8],
-    source: &mut S,
-    sink: &mut K,
-) -> Status
-    requires { length buffer.old ≡ 65537 }
-    ensures did { HasChecked (S.left source.old) (S.left source.new) (K.written sink.old) (K.written sink.new) result }
-    ensures read { result ≡ Status.ReadFailed → Rose (S.faults source.old) (S.faults source.new) }
-    ensures write { result ≡ Status.WriteFailed → Rose (K.faults sink.old) (K.faults sink.new) }
-    ensures source_later { S.faults source.old ≤ S.faults source.new }
-    ensures sink_later { K.faults sink.old ≤ K.faults sink.new }
-{
-    match read_input(source, buffer) {
-        None => Status::ReadFailed,
-        Some(count) => {
-            let (input, _) = buffer.split_at(count);
-            conclude(alloc, input, sink)
-        }
-    }
-}
-
-/// Reads an input, one byte more than the first form may have at most, and writes what it is answered.
+/// Reads an input, and writes what it is answered.
 fn check_source<S: Source, K: Sink>(alloc: Global, source: &mut S, sink: &mut K) -> Status
     ensures did { HasChecked (S.left source.old) (S.left source.new) (K.written sink.old) (K.written sink.new) result }
     ensures read { result ≡ Status.ReadFailed → Rose (S.faults source.old) (S.faults source.new) }
@@ -92,15 +72,17 @@ fn check_source<S: Source, K: Sink>(alloc: Global, source: &mut S, sink: &mut K)
     ensures source_later { S.faults source.old ≤ S.faults source.new }
     ensures sink_later { K.faults sink.old ≤ K.faults sink.new }
 {
-    match vec![in alloc; 0u8; 65_537] {
-        Err(_) => Status::NoMemory,
-        Ok(mut buffer) => check_input(alloc, buffer.as_mut_slice(), source, sink),
+    match read_input(alloc, source) {
+        Reading::Failed => Status::ReadFailed,
+        Reading::TooLong => Status::TooLong,
+        Reading::NoMemory => Status::NoMemory,
+        Reading::Input(input) => conclude(alloc, input.as_slice(), sink),
     }
 }
 
 /// Checks the file that the source gives, where the words are `check -`, and writes its faults and the counts to the
 /// sink. The exit status is the outcome's: 0 no fault, 1 faults, 2 other words, 5 a pull failed, 6 a push failed, 7 no
-/// memory, 11 a file that is not in the first form.
+/// memory, 8 more than 2^30 bytes, 11 a file without faults of its form that is not in the first form.
 pub fn run<S: Source, K: Sink>(
     alloc: Global,
     words: &[String],
@@ -113,7 +95,7 @@ pub fn run<S: Source, K: Sink>(
     ensures untouched { result.status ≡ 2 → Keeps (S.left source.old) (S.left source.new) × Keeps (K.written sink.old) (K.written sink.new) }
     // else an input was taken; each status has its cause in that input, and says what was written
     ensures did { IsCommand words.now → HasEnded (S.left source.old) (S.left source.new) (K.written sink.old) (K.written sink.new) result }
-    // 0, 1 and 6 come only where the source has nothing left
+    // 0, 1, 6 and 11 come only where the source has nothing left
     ensures finished { IsFinished result.status → IsAtEnd (S.left source.new) }
     // 5 comes only where a pull failed
     ensures read { result.status ≡ 5 → Rose (S.faults source.old) (S.faults source.new) }

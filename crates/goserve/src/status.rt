@@ -12,6 +12,7 @@ pub enum Status {
     ReadFailed,
     WriteFailed,
     NoMemory,
+    TooLong,
     NotBuilt,
 }
 
@@ -27,6 +28,7 @@ impl Status {
             Status::ReadFailed => 5,
             Status::WriteFailed => 6,
             Status::NoMemory => 7,
+            Status::TooLong => 8,
             Status::NotBuilt => 11,
         }
     }
@@ -51,6 +53,7 @@ pub fn text_of(status: u8) -> &'static str
         5 => "read failed",
         6 => "write failed",
         7 => "out of memory",
+        8 => "input too long",
         11 => "form not built yet",
         _ => "",
     }

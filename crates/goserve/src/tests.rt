@@ -83,18 +83,10 @@ fn clean_files(rt: HostRuntime) -> Result<(), Fail> {
 /// Files with faults, and what is written of them.
 #[test]
 fn faulty_files(rt: HostRuntime) -> Result<(), Fail> {
-    let files: [(&[u8], &[u8]); 14] = [
+    let files: [(&[u8], &[u8]); 12] = [
         (
             b"package a\nconst X = Y\n",
             b"stdin.go:2:11: G10 undeclared name: Y\npackages 1 checked 1 loaded 0 faults 1\n",
-        ),
-        (
-            b"",
-            b"stdin.go:1:1: G01 syntax error\npackages 1 checked 1 loaded 0 faults 1\n",
-        ),
-        (
-            b" \n\t\r\n",
-            b"stdin.go:1:1: G01 syntax error\npackages 1 checked 1 loaded 0 faults 1\n",
         ),
         // without a package clause the first chunk has the fault, and declares nothing
         (
@@ -153,42 +145,33 @@ fn faulty_files(rt: HostRuntime) -> Result<(), Fail> {
     Ok(())
 }
 
-/// Files that are not in the first form, each by one of its conditions.
+/// Files without faults of their form that are not in the first form, each by one of its conditions.
 #[test]
 fn other_files(rt: HostRuntime) -> Result<(), Fail> {
-    let files: [&[u8]; 42] = [
+    let files: [&[u8]; 32] = [
         // two names directly one after the other
         b"package a\nvar x int\n",
-        b"package a b\n",
         // numbers: 19 digits, a leading 0, other bases, a `_`, a point
         b"package a\nvar x = 1234567890123456789\n",
         b"package a\nvar x = 01\n",
         b"package a\nvar x = 00\n",
-        b"package a\nvar x = 08\n",
         b"package a\nvar x = 0x1\n",
         b"package a\nvar x = 1_0\n",
         b"package a\nvar x = 1.5\n",
         b"package a\nvar x = 1i\n",
-        b"package a\nvar x = 1x\n",
         // other tokens
         b"package a\nvar x = \"s\"\n",
         b"package a\nvar x = `s`\n",
         b"package a\nvar x = 'c'\n",
         b"package a\nvar x = -1\n",
         b"package a\nvar x = (1)\n",
-        b"package a\nvar x == 1\n",
         b"package a\nvar x, y = 1\n",
-        b"package a\nimport\n",
-        b"package a\nfunc\n",
-        b"package a\n#\n",
-        b"package a\n\x00\n",
+        b"package a\nimport \"b\"\nfunc f() {\n}\n",
         // comments
         b"package a // b\n",
         b"package a /* b */\n",
-        b"package a /\n",
         // bytes that are not of ASCII
         b"package \xc3\xa9\n",
-        b"package a\n\xff\n",
         b"\xef\xbb\xbfpackage a\n",
         // declared names
         b"package a\nvar _ = 1\n",
@@ -205,13 +188,169 @@ fn other_files(rt: HostRuntime) -> Result<(), Fail> {
         b"package a\nvar x = x\n",
         b"package a\nvar x = y\nvar y = 1\n",
         b"package a\nvar x = 1\nconst y = x\n",
-        // also where a chunk has a fault
-        b"package a\n1\nvar x = x\n",
     ];
     for file in files {
         check(&rt, rt.alloc(), file, 11, b"")?;
     }
     Ok(())
+}
+
+/// Faults of a file's form where no chunk has a tree.
+#[test]
+fn faults_alone(rt: HostRuntime) -> Result<(), Fail> {
+    let files: [(&[u8], &[u8]); 6] = [
+        (
+            b"",
+            b"stdin.go:1:1: G01 syntax error\npackages 1 checked 1 loaded 0 faults 1\n",
+        ),
+        (
+            b" \n\t// a\r\n",
+            b"stdin.go:1:1: G01 syntax error\npackages 1 checked 1 loaded 0 faults 1\n",
+        ),
+        (
+            b"#",
+            b"stdin.go:1:1: G02 bad token\npackages 1 checked 1 loaded 0 faults 1\n",
+        ),
+        (
+            b"package 08 #; x 1x\n \"",
+            b"stdin.go:1:9: G02 bad token\nstdin.go:1:12: G02 bad token\nstdin.go:1:17: G02 bad token\nstdin.go:2:2: G02 bad token\npackages 1 checked 1 loaded 0 faults 4\n",
+        ),
+        (
+            b"\xff",
+            b"stdin.go:1:1: G03 file is not UTF-8\npackages 1 checked 1 loaded 0 faults 1\n",
+        ),
+        (
+            b"package a\n\xff\n",
+            b"stdin.go:1:1: G03 file is not UTF-8\npackages 1 checked 1 loaded 0 faults 1\n",
+        ),
+    ];
+    for (file, written) in files {
+        check(&rt, rt.alloc(), file, 1, written)?;
+    }
+    Ok(())
+}
+
+/// Faults of a file's form, in files of any form: the line and the column of each, its code and its text.
+#[test]
+fn form_faults(rt: HostRuntime) -> Result<(), Fail> {
+    let files: [(&[u8], &[u8]); 16] = [
+        // a body that nothing closes
+        (
+            b"package a\nfunc F() {}\nfunc G() {\nvar x int = \"s\"\n",
+            b"stdin.go:3:1: G01 syntax error\npackages 1 checked 1 loaded 0 faults 1\n",
+        ),
+        // the order of a file's chunks
+        (
+            b"package a\nvar x = 1\nimport \"b\"\n",
+            b"stdin.go:3:1: G01 syntax error\npackages 1 checked 1 loaded 0 faults 1\n",
+        ),
+        (
+            b"package a\nvar x int int\nimport \"b\"\nvar y 1",
+            b"stdin.go:2:1: G01 syntax error\nstdin.go:4:1: G01 syntax error\npackages 1 checked 1 loaded 0 faults 2\n",
+        ),
+        (
+            b"import \"b\"\nimport \"c\"\npackage a\n",
+            b"stdin.go:1:1: G01 syntax error\nstdin.go:3:1: G01 syntax error\npackages 1 checked 1 loaded 0 faults 2\n",
+        ),
+        // each bad token of a chunk, and no syntax error beside it
+        (
+            b"package a\nvar x = 08 # 1x\nvar y y y\n",
+            b"stdin.go:2:9: G02 bad token\nstdin.go:2:12: G02 bad token\nstdin.go:2:14: G02 bad token\nstdin.go:3:1: G01 syntax error\npackages 1 checked 1 loaded 0 faults 4\n",
+        ),
+        (
+            b"package a\nvar x = \"s\n",
+            b"stdin.go:2:9: G02 bad token\npackages 1 checked 1 loaded 0 faults 1\n",
+        ),
+        (
+            b"package #\nvar x = 1\n",
+            b"stdin.go:1:9: G02 bad token\npackages 1 checked 1 loaded 0 faults 1\n",
+        ),
+        (
+            b"package a\n\x00\n",
+            b"stdin.go:2:1: G02 bad token\npackages 1 checked 1 loaded 0 faults 1\n",
+        ),
+        (
+            b"package a b\n",
+            b"stdin.go:1:1: G01 syntax error\npackages 1 checked 1 loaded 0 faults 1\n",
+        ),
+        (
+            b"package a /\n",
+            b"stdin.go:1:1: G01 syntax error\npackages 1 checked 1 loaded 0 faults 1\n",
+        ),
+        (
+            b"package a\nvar x == 1\n",
+            b"stdin.go:2:1: G01 syntax error\npackages 1 checked 1 loaded 0 faults 1\n",
+        ),
+        (
+            b"package a\nimport\n",
+            b"stdin.go:2:1: G01 syntax error\npackages 1 checked 1 loaded 0 faults 1\n",
+        ),
+        (
+            b"package a\nfunc\n",
+            b"stdin.go:2:1: G01 syntax error\npackages 1 checked 1 loaded 0 faults 1\n",
+        ),
+        // a file that would be in the first form but for it
+        (
+            b"package a\n1\nvar x = x\n",
+            b"stdin.go:2:1: G01 syntax error\npackages 1 checked 1 loaded 0 faults 1\n",
+        ),
+        (
+            b"package a // b\nvar x = y z\n",
+            b"stdin.go:2:1: G01 syntax error\npackages 1 checked 1 loaded 0 faults 1\n",
+        ),
+        (
+            b"package a\n/* b\n",
+            b"stdin.go:2:1: G02 bad token\npackages 1 checked 1 loaded 0 faults 1\n",
+        ),
+    ];
+    for (file, written) in files {
+        check(&rt, rt.alloc(), file, 1, written)?;
+    }
+    Ok(())
+}
+
+/// A variable whose value stands in so many parentheses.
+fn nested(alloc: Global, depth: usize) -> Result<Vec<u8>, AllocError> {
+    let mut file = b"package a\nvar x = ".to_vec(alloc)?;
+    for _ in 0..depth {
+        file.push(b'(')?;
+    }
+    file.push(b'1')?;
+    for _ in 0..depth {
+        file.push(b')')?;
+    }
+    Ok(file)
+}
+
+/// The greatest depth of a file, and one more.
+#[test]
+fn depths(rt: HostRuntime) -> Result<(), Fail> {
+    let written = b"stdin.go:2:1: G04 nesting above 200\npackages 1 checked 1 loaded 0 faults 1\n";
+    let alloc = rt.alloc();
+    check(&rt, alloc, nested(alloc, 200)?.as_slice(), 11, b"")?;
+    check(
+        &rt,
+        alloc,
+        nested(alloc, 201)?.as_slice(),
+        1,
+        written.as_slice(),
+    )
+}
+
+/// A file of the greatest size.
+#[test]
+fn greatest_size(rt: HostRuntime) -> Result<(), Fail> {
+    let file = blanks(rt.alloc(), 4_194_304)?;
+    check(&rt, rt.alloc(), file.as_slice(), 0, CLEAN)
+}
+
+/// A file of one byte more.
+#[test]
+fn one_byte_more(rt: HostRuntime) -> Result<(), Fail> {
+    let written =
+        b"stdin.go:1:1: G05 file above 4194304 bytes\npackages 1 checked 1 loaded 0 faults 1\n";
+    let file = blanks(rt.alloc(), 4_194_305)?;
+    check(&rt, rt.alloc(), file.as_slice(), 1, written.as_slice())
 }
 
 /// Words that are not the command. Nothing is read, so that a failing pull changes nothing.
@@ -248,11 +387,11 @@ fn blanks(alloc: Global, length: usize) -> Result<Vec<u8>, AllocError> {
     Ok(file)
 }
 
-/// Inputs of a length, the pulls that fail, and the status. A pull gives at most 4,096 bytes, and behind 65,537 bytes there
-/// is none.
+/// Inputs of a length, the pulls that fail, and the status. A pull gives at most 4,096 bytes, and the one behind the last
+/// byte gives none.
 #[test]
 fn pulls(rt: HostRuntime) -> Result<(), Fail> {
-    let cases: [(usize, &[u64], u8); 17] = [
+    let cases: [(usize, &[u64], u8); 14] = [
         (10, &[], 0),
         (10, &[0], 5),
         (10, &[1], 5),
@@ -265,11 +404,8 @@ fn pulls(rt: HostRuntime) -> Result<(), Fail> {
         (65_536, &[], 0),
         (65_536, &[16], 5),
         (65_536, &[17], 0),
-        (65_537, &[], 11),
-        (65_537, &[16], 5),
-        (65_537, &[17], 11),
-        (70_000, &[17], 11),
-        (70_000, &[3], 5),
+        (70_000, &[18], 5),
+        (70_000, &[19], 0),
     ];
     for (length, failing, status) in cases {
         let input = blanks(rt.alloc(), length)?;
@@ -288,7 +424,7 @@ fn pulls(rt: HostRuntime) -> Result<(), Fail> {
     Ok(())
 }
 
-/// A failing pull comes before a file that is not in the first form.
+/// A failing pull comes before the faults of a file.
 #[test]
 fn failing_pull_of_another_file(rt: HostRuntime) -> Result<(), Fail> {
     let ran = run_over(rt.alloc(), &["check", "-"], b"func", &[1], 100, &[])?;

@@ -20,13 +20,6 @@ pub fn is_semicolon(kind: &TokenKind) -> bool
     )
 }
 
-/// Whether a token is the keyword `package`.
-pub fn is_package(kind: &TokenKind) -> bool
-    ensures { result ≡ tree.is_package kind.now }
-{
-    matches!(kind, TokenKind::Keyword(Keyword::Package))
-}
-
 /// Whether a token is the keyword `const`.
 pub fn is_const(kind: &TokenKind) -> bool
     ensures { result ≡ tree.is_const kind.now }

@@ -1,10 +1,8 @@
 -- What is written of a check.
 use Rattle.std.specs.Prelude.{ℕ, ◌+◌, ◌==◌, nat_lt, if◌then◌else◌, List, [], ◌∷◌, ◌++◌, length, take, codes}
 pub use Rattle.std.specs.Fmt.{decimal}
-use Rattle.gs_syntax.specs.declared.token.Token.{Token}
 use Rattle.gs_rules.specs.declared.fault.Fault.{Fault}
 use Rattle.gs_rules.specs.declared.place.Place.{Place}
-use Rattle.gs_rules.specs.Faults.{faults_of}
 
 -- the place of the first byte
 abbrev pub front : Place
@@ -43,6 +41,6 @@ unfoldable pub counts_line : ℕ → ℕ → ℕ → ℕ → List ℕ
 counts_line packages checked loaded faults = codes "packages " ++ decimal packages ++ codes " checked " ++ decimal checked
     ++ codes " loaded " ++ decimal loaded ++ codes " faults " ++ decimal faults ++ codes "\n"
 
--- the bytes that are written for one file with these tokens: a line for each fault, and the counts
-unfoldable pub output_of : List ℕ → List ℕ → List Token → List ℕ
-output_of file input tokens = lines_of input (faults_of file tokens) ++ counts_line 1 1 0 (length (faults_of file tokens))
+-- the bytes that are written for one file with these faults: a line for each, and the counts
+unfoldable pub output_of : List ℕ → List Fault → List ℕ
+output_of input faults = lines_of input faults ++ counts_line 1 1 0 (length faults)

@@ -1,18 +1,13 @@
--- The chunks of a file of constants and variables (Go specification, "Package clause", "Constant declarations", "Variable
--- declarations").
+-- The declarations of a file of constants and variables (Go specification, "Constant declarations", "Variable declarations").
 use Rattle.std.specs.Prelude.{ℕ, Bool, true, false, ◌&&◌, ◌||◌, if◌then◌else◌, List, [], ◌∷◌, Option, Some, None}
 use Rattle.gs_syntax.specs.declared.token.Span.{Span}
 use Rattle.gs_syntax.specs.declared.token.Keyword.{Keyword}
-use Rattle.gs_syntax.specs.declared.token.Keyword.TheVariants.{Package, Const, Var}
+use Rattle.gs_syntax.specs.declared.token.Keyword.TheVariants.{Const, Var}
 use Rattle.gs_syntax.specs.declared.token.Operator.TheVariants.{Assign}
 use Rattle.gs_syntax.specs.declared.token.Token.{Token}
 use Rattle.gs_syntax.specs.declared.token.TokenKind.{TokenKind}
 use Rattle.gs_syntax.specs.declared.token.TokenKind.TheVariants as kind
 use Rattle.gs_syntax.specs.Chunks.{is_semicolon}
-
-abbrev pub is_package : TokenKind → Bool
-is_package (kind.Keyword Package) = true
-is_package _ = false
 
 abbrev pub is_const : TokenKind → Bool
 is_const (kind.Keyword Const) = true
@@ -34,11 +29,6 @@ name_of _ = None
 abbrev pub is_name : TokenKind → Bool
 is_name (kind.Identifier name) = true
 is_name _ = false
-
--- `package N`
-abbrev pub is_clause : List Token → Bool
-is_clause (word ∷ name ∷ end ∷ []) = is_package word.kind && (is_name name.kind && is_semicolon end.kind)
-is_clause _ = false
 
 -- what stands on the right of a declaration: a name, and where it stands, or a number
 pub data Right : Type 0 where

@@ -17,15 +17,16 @@ pub struct Fault {
 }
 
 impl Fault {
-    /// A chunk that is not what it must be.
-    pub fn syntax_error(alloc: Global, file: &str, span: Span) -> Mem<Fault>
-        ensures { IfOk result (λ fault. fault ≡ spec.syntax_error file.now span) }
+    /// A fault of a file's form: a code of 1 to 5, and its place.
+    pub fn of_form(alloc: Global, file: &str, fault: (u16, Span)) -> Mem<Fault>
+        ensures { IfOk result (λ it. it ≡ spec.form_fault file.now fault) }
     {
+        let (code, span) = fault;
         Ok(Fault {
             file: Text::new(alloc, file)?,
             span,
-            code: 1,
-            text: Text::new(alloc, "syntax error")?,
+            code,
+            text: Text::new(alloc, form_text(code))?,
         })
     }
 
@@ -39,6 +40,20 @@ impl Fault {
             code: 10,
             text: Text::from_string(undeclared_text(alloc, name)?),
         })
+    }
+}
+
+/// What is said of a fault of a file's form.
+fn form_text(code: u16) -> &'static str
+    ensures { result.now ≡ spec.form_text code }
+{
+    match code {
+        1 => "syntax error",
+        2 => "bad token",
+        3 => "file is not UTF-8",
+        4 => "nesting above 200",
+        5 => "file above 4194304 bytes",
+        _ => "",
     }
 }
 

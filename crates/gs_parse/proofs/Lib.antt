@@ -1,0 +1,5 @@
+mod Classes
+mod Fewness
+mod Judging
+mod OneTree
+mod Verdicts

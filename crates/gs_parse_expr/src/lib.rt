@@ -1,0 +1,4 @@
+//! What stands at a place of a list of tokens.
+#![tactic(auto)]
+
+pub mod end;
