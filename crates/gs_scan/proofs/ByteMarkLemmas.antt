@@ -1,9 +1,10 @@
 -- A byte order mark at the front of a text.
-use Rattle.std.proofs.Common.{◌≡◌, ℕ, Bool, true, false, ◌&&◌, ◌==◌, List, [], ◌∷◌, ◌++◌, length, drop, sym, refl, ap, ◌∙◌, subst, IsUtf8, nat_eq}
+use Rattle.std.proofs.Common.{◌≡◌, ℕ, Bool, true, false, ◌&&◌, ◌==◌, List, [], ◌∷◌, ◌++◌, ◌≤◌, length, drop, sym, refl, ap, ◌∙◌, subst, ⊎_elim, arith, IsUtf8, nat_eq}
 use Rattle.std.specs.Char.{encode_utf8}
 use Rattle.std.specs.List.{starts_with}
 use Rattle.std.specs.Str.{IsCharBoundary}
-use Rattle.std.proofs.lemmas.Bool.{false≢true, and_parts, eqb-true}
+use Rattle.std.proofs.lemmas.Bool.{false≢true, and_parts, cases_Bool, eqb-true}
+use Rattle.gs_syntax.specs.Tokens.{mark_size}
 use Rattle.std.proofs.lemmas.Str.{IsCharBoundary-at_seam, IsUtf8-past_char}
 
 and_false : (b : Bool) → (b && false) ≡ false
@@ -29,3 +30,10 @@ mark_boundary text utf8 h =
     let begins : text ≡ encode_utf8 65279 ++ drop 3 text = mark_front text h ∙ ap (λ l. l ++ drop 3 text) (sym mark_bytes) in
     let boundary = IsCharBoundary-at_seam text (encode_utf8 65279) (drop 3 text) begins (IsUtf8-past_char text (drop 3 text) 65279 utf8 begins) in
     subst (IsCharBoundary text) (ap length mark_bytes) boundary
+
+pub mark_within : (text : List ℕ) → mark_size text ≤ length text
+mark_within text =
+    ⊎_elim
+    (λ is. rw is (let e = ap length (mark_front text is) in omega arith))
+    (λ is. rw is (omega arith))
+    (cases_Bool (starts_with nat_eq text (239 ∷ 187 ∷ 191 ∷ [])))

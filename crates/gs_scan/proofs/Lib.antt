@@ -5,8 +5,9 @@ pub mod KeywordLemmas
 pub mod MarkLemmas
 pub mod NumberLemmas
 pub mod FirstLemmas
-pub mod StepLemmas
 pub mod StandingBlanks
+pub mod StepLemmas
+pub mod Ascending
 pub mod StandingWords
 pub mod StandingMarks
 pub mod StandingNumbers

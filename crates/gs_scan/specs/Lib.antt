@@ -2,4 +2,5 @@ pub mod Pieces
 pub mod Marks
 pub mod Escapes
 pub mod Reading
+pub mod Comments
 pub mod Steps

@@ -1,4 +1,4 @@
-//! The scanner: the tokens of a Go text, and the chunks that they are cut into.
+//! The scanner: the tokens of a Go text, where its line comments begin, and the chunks that the tokens are cut into.
 #![tactic(auto)]
 
 mod blank;
@@ -6,6 +6,7 @@ pub mod chunk;
 mod class;
 mod escape;
 mod front;
+pub mod laws;
 mod mark;
 mod piece;
 mod quoted;

@@ -1,16 +1,16 @@
-//! A step of the scanner: what stands at the front of the text joins the tokens.
-ghost use Rattle.std.specs.Prelude.{◌≡◌, ◌<◌, ◌≤◌, ◌+◌, ◌^◌, ◌++◌, ◌∷◌, [], List, length, slice_index, IfOk, OnOk};
+//! A step of the scanner: what stands at the front of the text joins the tokens, or the comments.
+ghost use Rattle.std.specs.Prelude.{◌≡◌, ◌<◌, ◌≤◌, ◌+◌, ◌^◌, ◌++◌, ◌∷◌, [], length, slice_index, IfOk, OnOk};
 ghost use Rattle.std.specs.Str.{IsCharBoundary};
 ghost use Rattle.gs_scan.specs.Pieces.{lexeme_of};
 ghost use Rattle.gs_scan.specs.Reading as spec_reading;
-ghost use Rattle.gs_scan.specs.Steps.{Adds, AddsToken};
+ghost use Rattle.gs_scan.specs.Steps.{Adds, AddsToken, JoinsAs, comment_at};
 ghost use Rattle.gs_syntax.specs.Tokens as spec;
-ghost use Rattle.gs_syntax.specs.Tokens.{Cut};
 
 use crate::class::{Class, class_of};
 use crate::front::piece_at;
 use crate::mark::{byte_at, operator_at};
 use crate::piece::Piece;
+use crate::scan::Scanned;
 use crate::word::{keyword_of, word_len};
 use gs_base::Mem;
 use gs_syntax::name::Name;
@@ -77,6 +77,21 @@ fn add(tokens: &mut Vec<Token>, kind: TokenKind, at: u32, len: usize) -> Result<
     Ok(Step { end, len })
 }
 
+/// Adds the place of what stands at the front, if it is a line comment.
+fn add_comment(
+    comments: &mut Vec<u32>,
+    piece: &Piece,
+    at: u32,
+    rest: &str,
+) -> Result<(), AllocError>
+    ensures { OnOk result (comments.new.items ≡ comments.old.items ++ comment_at at rest.now (lexeme_of piece.now)) }
+{
+    if matches!(piece, Piece::Blank) && rest.as_bytes().starts_with(b"//".as_slice()) {
+        comments.push(at)?;
+    }
+    Ok(())
+}
+
 /// Adds what stands at a place, and says where a semicolon waits then.
 fn put(
     tokens: &mut Vec<Token>,
@@ -86,9 +101,7 @@ fn put(
     len: usize,
 ) -> Result<Step, AllocError>
     requires { at + len < 2 ^ 32 }
-    ensures adds { IfOk result (λ step. (cs : List Cut) →
-        tokens.old.items ++ spec.tokens_from at end ((lexeme_of piece, len) ∷ cs)
-        ≡ tokens.new.items ++ spec.tokens_from (at + len) step.end cs) }
+    ensures adds { IfOk result (λ step. JoinsAs (lexeme_of piece) len at end tokens.old.items tokens.new.items step.end) }
     ensures len { IfOk result (λ step. step.len ≡ len) }
 {
     match piece {
@@ -140,18 +153,19 @@ fn mark_step(tokens: &mut Vec<Token>, at: u32, rest: &str) -> Mem<Step>
 #[inline(never)]
 fn piece_step(
     alloc: Global,
-    tokens: &mut Vec<Token>,
+    found: &mut Scanned,
     end: Option<u32>,
     at: u32,
     rest: &str,
 ) -> Mem<Step>
     requires some { 0 < length rest.now }
     requires fits { at + length rest.now < 2 ^ 32 }
-    ensures adds { IfOk result (λ step. Adds rest.now at end tokens.old.items tokens.new.items step.end step.len) }
+    ensures adds { IfOk result (λ step. Adds rest.now at end found.old found.new step.end step.len) }
     ensures boundary { IfOk result (λ step. IsCharBoundary rest.now step.len) }
 {
     let (piece, len) = piece_at(alloc, rest)?;
-    Ok(put(tokens, end, piece, at, len)?)
+    add_comment(&mut found.comments, &piece, at, rest)?;
+    Ok(put(&mut found.tokens, end, piece, at, len)?)
 }
 
 /// Adds what stands at the front. White space, words and operators, which are most of a text, take ways of their own, on
@@ -159,24 +173,24 @@ fn piece_step(
 #[inline(always)]
 pub fn step_at(
     alloc: Global,
-    tokens: &mut Vec<Token>,
+    found: &mut Scanned,
     end: Option<u32>,
     at: u32,
     rest: &str,
 ) -> Mem<Step>
     requires some { 0 < length rest.now }
     requires fits { at + length rest.now < 2 ^ 32 }
-    ensures adds { IfOk result (λ step. Adds rest.now at end tokens.old.items tokens.new.items step.end step.len) }
+    ensures adds { IfOk result (λ step. Adds rest.now at end found.old found.new step.end step.len) }
     ensures boundary { IfOk result (λ step. IsCharBoundary rest.now step.len) }
 {
     match class_of(byte_at(rest.as_bytes(), 0)) {
         Class::Space => Ok(Step { end, len: 1 }),
         Class::LineFeed => {
-            insert(tokens, end)?;
+            insert(&mut found.tokens, end)?;
             Ok(Step { end: None, len: 1 })
         }
-        Class::Letter => word_step(alloc, tokens, at, rest),
-        Class::Mark => mark_step(tokens, at, rest),
-        _ => piece_step(alloc, tokens, end, at, rest),
+        Class::Letter => word_step(alloc, &mut found.tokens, at, rest),
+        Class::Mark => mark_step(&mut found.tokens, at, rest),
+        _ => piece_step(alloc, found, end, at, rest),
     }
 }

