@@ -1,0 +1,29 @@
+-- What comes of pieces that are put together.
+use Rattle.std.specs.Prelude.{◌≡◌, Bool, if◌then◌else◌, Result, Ok, Err}
+use Rattle.gs_places.specs.declared.rest.Rest.{Rest}
+use Rattle.gs_build_base.specs.declared.pieces.Piece.{Piece}
+use Rattle.gs_build_base.specs.declared.pieces.Stop.{Stop}
+use Rattle.gs_build_base.specs.declared.pieces.Stop.TheVariants as stop
+
+-- this tree before these tokens, unless memory runs out
+abbrev pub Holds : {A : Type 0} → A → Rest → Result (Piece A) Stop → Type 0
+Holds t rest (Ok p) = p ≡ record { tree = t; rest = rest }
+Holds t rest (Err stop.NoMemory) = Unit {0}
+Holds t rest (Err stop.Absent) = ⊥
+
+-- the same tree in a box, unless memory runs out
+abbrev pub IsBoxed : {A : Type 0} → Result (Piece A) Stop → Result (Piece A) Stop → Type 0
+IsBoxed made (Ok p) = made ≡ Ok p
+IsBoxed made (Err stop.Absent) = made ≡ Err stop.Absent
+IsBoxed made (Err stop.NoMemory) = Unit {0}
+
+-- both trees, and what is left behind the second, or why one of them is not there
+abbrev pub IsPair : {A B : Type 0} → Result (Piece A) Stop → Result (Piece B) Stop → Result (Piece (A × B)) Stop → Type 0
+IsPair (Err e) two r = r ≡ Err e
+IsPair (Ok p) (Err e) r = r ≡ Err e
+IsPair (Ok p) (Ok q) r = r ≡ Ok (record { tree = (p.tree, q.tree); rest = q.rest })
+
+-- the tree, where it is of this kind
+abbrev pub IsWhere : {A : Type 0} → (A → Bool) → Result (Piece A) Stop → Result (Piece A) Stop → Type 0
+IsWhere test (Err e) r = r ≡ Err e
+IsWhere test (Ok p) r = r ≡ (if test p.tree then Ok p else Err stop.Absent)
