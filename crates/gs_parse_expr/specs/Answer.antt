@@ -1,9 +1,14 @@
 -- What is answered at a place: `Stands t s r d` says that the tree t stands at the front of the tokens s, that r is what
 -- follows it, and that it nests d deep.
-use Rattle.std.specs.Prelude.{ℕ, ◌<◌, ◌≤◌, List, drop, length}
+use Rattle.std.specs.Prelude.{◌≡◌, ℕ, ◌-◌, ◌<◌, ◌≤◌, List, drop, length, Result, Ok, Err}
 use Rattle.gs_syntax.specs.declared.token.Token.{Token}
 use Rattle.gs_parse_expr.specs.declared.end.End.{End}
 use Rattle.gs_parse_expr.specs.declared.end.End.TheVariants as end
+use Rattle.gs_build_base.specs.declared.pieces.Piece.{Piece}
+use Rattle.gs_build_base.specs.declared.pieces.Stop.{Stop}
+use Rattle.gs_build_base.specs.declared.pieces.Stop.TheVariants as stop
+use Rattle.gs_parse_expr.specs.declared.at.Parsed.{Parsed}
+use Rattle.gs_parse_expr.specs.declared.at.Parsed.TheVariants as parsed
 
 -- the deepest nesting that a tree may have
 abbrev pub limit : ℕ
@@ -27,3 +32,16 @@ IsEnd {T = T} Stands tokens at (end.At e) = (t : T) × IsTree Stands tokens at t
 IsEnd Stands tokens at end.None = Lacks Stands tokens at
 IsEnd Stands tokens at end.TooDeep = IsTooDeep Stands tokens at
 IsEnd Stands tokens at end.NoMemory = Unit
+
+-- the tree of a place, and where it ends
+abbrev pub IsParsed : {T : Type 0} → (T → List Token → List Token → ℕ → Type 0) → List Token → ℕ → Parsed T → Type 0
+IsParsed Stands tokens at (parsed.Tree t e) = IsTree Stands tokens at t e
+IsParsed Stands tokens at parsed.None = Lacks Stands tokens at
+IsParsed Stands tokens at parsed.TooDeep = IsTooDeep Stands tokens at
+IsParsed Stands tokens at parsed.NoMemory = Unit
+
+-- what is answered of a tree that was built, in a list of so many tokens
+abbrev pub IsBuilt : {T : Type 0} → ℕ → Result (Piece T) Stop → Parsed T → Type 0
+IsBuilt count (Ok p) result = result ≡ parsed.Tree p.tree (count - length p.rest.tokens.now)
+IsBuilt count (Err stop.Absent) result = result ≡ parsed.None
+IsBuilt count (Err stop.NoMemory) result = result ≡ parsed.NoMemory

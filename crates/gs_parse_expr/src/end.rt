@@ -8,6 +8,9 @@ use gs_rows::table::{places_of, whole};
 use gs_syntax::token::Token;
 use std::alloc::Global;
 
+/// The deepest nesting that a tree may have.
+pub const LIMIT: u8 = 200;
+
 /// The place behind the tree that stands at a place, that none stands there, that it nests deeper than 200, or that no memory
 /// was left to say.
 #[derive(Clone, Copy, Debug, PartialEq, Eq)]
@@ -31,7 +34,7 @@ pub fn chunk_end(alloc: Global, tokens: &[Token], at: u32) -> End
     match chunk(whole(from, table.as_slice())) {
         None => End::None,
         Some(found) => {
-            if found.depth > 200 {
+            if found.depth > LIMIT {
                 End::TooDeep
             } else {
                 End::At((tokens.len() - found.rest.tokens.len()) as u32)

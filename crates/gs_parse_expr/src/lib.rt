@@ -1,4 +1,5 @@
 //! What stands at a place of a list of tokens.
 #![tactic(auto)]
 
+pub mod at;
 pub mod end;

@@ -1,5 +1,5 @@
 //! What is asked of each table.
-ghost use Rattle.std.specs.Prelude.{◌<◌, ◌^◌, length};
+ghost use Rattle.std.specs.Prelude.{◌<◌, ◌≤◌, ◌^◌, length};
 
 use crate::declarations::{NO_CHUNKS, NO_DECLARATIONS, WHOLE_CHUNKS, WHOLE_DECLARATIONS};
 use crate::expressions::{NO_EXPRESSIONS, WHOLE_EXPRESSIONS};
@@ -11,19 +11,46 @@ use crate::statements::{
     NO_HEADERS, NO_STATEMENTS, NO_SWITCHES, WHOLE_HEADERS, WHOLE_STATEMENTS, WHOLE_SWITCHES,
 };
 use crate::types::{NO_TYPES, WHOLE_TYPES};
+use gs_parse_expr::at::{Parsed, chunk_at};
 use gs_parse_expr::end::{End, chunk_end};
 use gs_scan::scan::scan;
+use gs_syntax::token::Token;
 use std::alloc::Global;
 use std::process::Abort;
 use std::test::Fail;
 
-/// What stands at a place of a text: a chunk that ends where the text ends, one that ends before that token, or none.
+/// Where the tree ends.
+fn end_of<T: Drop>(parsed: Parsed<T>) -> End {
+    match &parsed {
+        Parsed::Tree(_, end) => End::At(*end),
+        Parsed::None => End::None,
+        Parsed::TooDeep => End::TooDeep,
+        Parsed::NoMemory => End::NoMemory,
+    }
+}
+
+/// Where the tree ends that is built of the chunk at a place.
+fn tree_end(alloc: Global, tokens: &[Token], at: u32) -> End
+    requires few { length tokens.now < 2 ^ 32 }
+    requires within { at ≤ length tokens.now }
+{
+    end_of(chunk_at(alloc, tokens, at))
+}
+
+/// What stands at a place of a text: a chunk that ends where the text ends, one that ends before that token, or none. The
+/// tree that is built there ends alike.
 fn found(rt: &impl Abort, alloc: Global, text: &str, at: u32) -> Result<String, Fail> {
     assert!(rt; text.len() < 10_000_000);
     let tokens = scan(alloc, text)?;
     assert!(rt; tokens.len() < 10_000_000);
     assert!(rt; at as usize <= tokens.len());
-    Ok(match chunk_end(alloc, tokens.as_slice(), at) {
+    let place = chunk_end(alloc, tokens.as_slice(), at);
+    assert_eq!(rt;
+        tree_end(alloc, tokens.as_slice(), at),
+        place,
+        "at {at} of {text:?}"
+    );
+    Ok(match place {
         End::At(end) if end as usize == tokens.len() => format!(in alloc; "whole")?,
         End::At(end) => format!(in alloc; "{end}")?,
         End::None => format!(in alloc; "none")?,

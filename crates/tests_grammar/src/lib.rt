@@ -1,4 +1,4 @@
-//! Tests of the parser: which texts it reads as one chunk.
+//! Tests of the parser: which texts it reads as one chunk, and that the tree it builds ends there too.
 //!
 //! Go's own parser was asked about each text of the tables. Where it answers otherwise, the text stands in a table
 //! `UNLIKE`.

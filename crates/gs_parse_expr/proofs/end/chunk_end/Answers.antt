@@ -9,10 +9,10 @@ returns-in-None c =
     let from = c.whole.result.tokens.now in
     row_lacks IsChunkAt c.args.tokens.now c.args.at (stands from).chunk (chunk_row_of _ from (c.whole.ensures ∙ c.split_at.ensures.back)) c.in-None.ensures
 
-pub returns-then-found-gt200 : goal.returns-then-found-gt200
-returns-then-found-gt200 c =
+pub returns-then-found-gt-LIMIT : goal.returns-then-found-gt-LIMIT
+returns-then-found-gt-LIMIT c =
     let from = c.whole.result.tokens.now in
-    row_deep IsChunkAt c.args.tokens.now c.args.at (stands from).chunk c.in-Some.found.depth c.in-Some.found.rest.tokens.now (chunk_row_of _ from (c.whole.ensures ∙ c.split_at.ensures.back)) c.in-Some.ensures c.if-found-gt200.true
+    row_deep IsChunkAt c.args.tokens.now c.args.at (stands from).chunk c.in-Some.found.depth c.in-Some.found.rest.tokens.now (chunk_row_of _ from (c.whole.ensures ∙ c.split_at.ensures.back)) c.in-Some.ensures c.if-found-gt-LIMIT.true
 
 pub overflow_sub-result : goal.overflow_sub-result
 overflow_sub-result c =
@@ -22,4 +22,4 @@ overflow_sub-result c =
 pub returns : goal.returns
 returns c =
     let from = c.whole.result.tokens.now in
-    row_tree IsChunkAt c.args.tokens.now c.args.at (stands from).chunk c.in-Some.found.depth c.in-Some.found.rest.tokens.now c.requires.within (chunk_row_of _ from (c.whole.ensures ∙ c.split_at.ensures.back)) c.in-Some.ensures c.if-found-gt200.false
+    row_tree IsChunkAt c.args.tokens.now c.args.at (stands from).chunk c.in-Some.found.depth c.in-Some.found.rest.tokens.now c.requires.within (chunk_row_of _ from (c.whole.ensures ∙ c.split_at.ensures.back)) c.in-Some.ensures c.if-found-gt-LIMIT.false
