@@ -78,7 +78,7 @@ pub trait Maker {
         requires faithful { is_faithful self.now }
         ensures { Builds result ((stands s.entry.tokens.now).stmts) };
 
-    /// The statement, in a box, since it is large of the place.
+    /// The statement of the place, in a box, since it is large.
     fn make_stmt<'a>(&self, s: Rest<'a>) -> Result<Piece<'a, Boxed<Stmt>>, Stop>
         requires faithful { is_faithful self.now }
         ensures { Builds result ((stands s.entry.tokens.now).stmt) };
@@ -122,7 +122,7 @@ pub fn expr_made<'a, M: Maker>(
     make.make_expr(level, header, first, place)
 }
 
-/// The expressions that begins with the token.
+/// The expressions that begin with the token.
 #[tactic(auto, using(gs_places::proofs::Laws::at_exprs))]
 pub fn exprs_made<'a, M: Maker>(
     make: &M,
