@@ -4,11 +4,11 @@ use Rattle.gs_syntax.specs.declared.token.Token.{Token}
 use Rattle.gs_syntax.specs.Spelling.{Lexeme, Blank, LineEnd, Token as ATokenOf, StandsAt}
 use Rattle.gs_syntax.specs.Tokens.{Cut, IsCutInto, semicolon, end_after, tokens_from, mark_size, AreTokens}
 
-some_at : (text : List ℕ) (what : Lexeme) (n : ℕ) → StandsAt text what n → 0 < n
+pub some_at : (text : List ℕ) (what : Lexeme) (n : ℕ) → StandsAt text what n → 0 < n
 some_at text what n (inl h) = h.some
 some_at text what n (inr h) = h.some
 
-within_at : (text : List ℕ) (what : Lexeme) (n : ℕ) → StandsAt text what n → n ≤ length text
+pub within_at : (text : List ℕ) (what : Lexeme) (n : ℕ) → StandsAt text what n → n ≤ length text
 within_at text what n (inl h) = h.within
 within_at text what n (inr h) = h.within
 

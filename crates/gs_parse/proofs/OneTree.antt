@@ -1,18 +1,24 @@
 -- A file has one tree.
-use Rattle.std.proofs.Common.{◌≡◌, ℕ, List, [], ◌∷◌, arith, sym, refl, ap, subst}
+use Rattle.std.proofs.Common.{◌≡◌, ℕ, List, [], ◌∷◌, arith, sym, refl, ap, ◌∙◌, subst}
 use Rattle.gs_syntax.specs.declared.token.Token.{Token}
 use Rattle.gs_syntax.specs.Chunks.{chunks_of}
 use Rattle.gs_syntax.specs.Tokens.{AreTokens}
 use Rattle.gs_grammar.specs.declared.trees.Chunk.{Chunk}
 use Rattle.gs_parse.specs.declared.stage.Stage.{Stage}
 use Rattle.gs_parse.specs.declared.stage.Stage.TheVariants.{Clause}
-use Rattle.gs_parse.specs.Files.{IsRead, too_long, not_text, empty, judged}
+use Rattle.gs_scan.specs.Comments.{AreComments}
+use Rattle.gs_parse.specs.Docs.{docs_at}
+use Rattle.gs_parse.specs.Files.{IsRead, too_long, not_text, empty, judged, starts_of}
 use Rattle.gs_parse.specs.Verdicts.{Fault, Verdict, Kept, Dropped, IsKept, IsDropped, IsVerdict, AreVerdicts, after, bad, deep, misplaced, faults_of, kept_of, parts_of}
 use Rattle.gs_parse.proofs.Verdicts.{OneChunk}
 
 -- a text has one list of tokens at most
 abbrev pub OneList : Type 0
 OneList = (text : List ℕ) (ts us : List Token) → AreTokens text ts → AreTokens text us → ts ≡ us
+
+-- and one list of comments
+abbrev pub OneComments : Type 0
+OneComments = (text : List ℕ) (a b : List ℕ) → AreComments text a → AreComments text b → a ≡ b
 
 module _ (one : OneChunk) where
   not_both : (stage : Stage) (ts : List Token) (t : Chunk) (fs : List Fault) → IsKept stage ts t → IsDropped stage ts fs → ⊥
@@ -49,23 +55,25 @@ module _ (one : OneChunk) where
       let rest = verdicts_same (after stage v) parts vs ws h.1 (subst (λ x. AreVerdicts (after stage x) parts ws) (sym first) k.1) in
       λ i. first i ∷ rest i
 
-  pub reading_same : OneList → (bytes : List ℕ) (cs ds : List Chunk) (fs gs : List Fault) → IsRead bytes cs fs → IsRead bytes ds gs → (cs ≡ ds) × (fs ≡ gs)
-  reading_same list bytes cs ds fs gs (too_long m) (too_long n) = (refl, refl)
-  reading_same list bytes cs ds fs gs (too_long m) (not_text n u) = absurd (omega arith)
-  reading_same list bytes cs ds fs gs (too_long m) (empty n u a) = absurd (omega arith)
-  reading_same list bytes cs ds fs gs (too_long m) (judged tokens vs n u a s h) = absurd (omega arith)
-  reading_same list bytes cs ds fs gs (not_text m w) (too_long n) = absurd (omega arith)
-  reading_same list bytes cs ds fs gs (not_text m w) (not_text n u) = (refl, refl)
-  reading_same list bytes cs ds fs gs (not_text m w) (empty n u a) = absurd (w u)
-  reading_same list bytes cs ds fs gs (not_text m w) (judged tokens vs n u a s h) = absurd (w u)
-  reading_same list bytes cs ds fs gs (empty m u a) (too_long n) = absurd (omega arith)
-  reading_same list bytes cs ds fs gs (empty m u a) (not_text n w) = absurd (w u)
-  reading_same list bytes cs ds fs gs (empty m u a) (empty n w b) = (refl, refl)
-  reading_same list bytes cs ds fs gs (empty m u a) (judged tokens vs n w b s h) = absurd (s (list bytes tokens [] b a))
-  reading_same list bytes cs ds fs gs (judged tokens vs m u a s h) (too_long n) = absurd (omega arith)
-  reading_same list bytes cs ds fs gs (judged tokens vs m u a s h) (not_text n w) = absurd (w u)
-  reading_same list bytes cs ds fs gs (judged tokens vs m u a s h) (empty n w b) = absurd (s (list bytes tokens [] a b))
-  reading_same list bytes cs ds fs gs (judged tokens vs m u a s h) (judged others ws n w b z k) =
+  pub reading_same : OneList → OneComments → (bytes : List ℕ) (cs ds : List Chunk) (ms ns : List (ℕ × List ℕ)) (fs gs : List Fault) → IsRead bytes cs ms fs → IsRead bytes ds ns gs → (cs ≡ ds) × (ms ≡ ns) × (fs ≡ gs)
+  reading_same list comments bytes cs ds ms ns fs gs (too_long m) (too_long n) = (refl, refl, refl)
+  reading_same list comments bytes cs ds ms ns fs gs (too_long m) (not_text n v) = absurd (omega arith)
+  reading_same list comments bytes cs ds ms ns fs gs (too_long m) (empty n v b) = absurd (omega arith)
+  reading_same list comments bytes cs ds ms ns fs gs (too_long m) (judged others ws ps n v b z k d) = absurd (omega arith)
+  reading_same list comments bytes cs ds ms ns fs gs (not_text m w) (too_long n) = absurd (omega arith)
+  reading_same list comments bytes cs ds ms ns fs gs (not_text m w) (not_text n v) = (refl, refl, refl)
+  reading_same list comments bytes cs ds ms ns fs gs (not_text m w) (empty n v b) = absurd (w v)
+  reading_same list comments bytes cs ds ms ns fs gs (not_text m w) (judged others ws ps n v b z k d) = absurd (w v)
+  reading_same list comments bytes cs ds ms ns fs gs (empty m u a) (too_long n) = absurd (omega arith)
+  reading_same list comments bytes cs ds ms ns fs gs (empty m u a) (not_text n v) = absurd (v u)
+  reading_same list comments bytes cs ds ms ns fs gs (empty m u a) (empty n v b) = (refl, refl, refl)
+  reading_same list comments bytes cs ds ms ns fs gs (empty m u a) (judged others ws ps n v b z k d) = absurd (z (list bytes others [] b a))
+  reading_same list comments bytes cs ds ms ns fs gs (judged tokens vs os m u a s h c) (too_long n) = absurd (omega arith)
+  reading_same list comments bytes cs ds ms ns fs gs (judged tokens vs os m u a s h c) (not_text n v) = absurd (v u)
+  reading_same list comments bytes cs ds ms ns fs gs (judged tokens vs os m u a s h c) (empty n v b) = absurd (s (list bytes tokens [] a b))
+  reading_same list comments bytes cs ds ms ns fs gs (judged tokens vs os m u a s h c) (judged others ws ps n v b z k d) =
       let same = list bytes others tokens b a in
       let all = verdicts_same Clause (parts_of tokens (chunks_of tokens)) vs ws h (subst (λ ts. AreVerdicts Clause (parts_of ts (chunks_of ts)) ws) same k) in
-      (ap kept_of all, ap faults_of all)
+      let said = comments bytes os ps c d in
+      let begin = ap (starts_of (parts_of tokens (chunks_of tokens))) all ∙ ap (λ ts. starts_of (parts_of ts (chunks_of ts)) ws) (sym same) in
+      (ap kept_of all, ap (λ l. docs_at bytes l (starts_of (parts_of tokens (chunks_of tokens)) vs)) said ∙ ap (docs_at bytes ps) begin, ap faults_of all)

@@ -1,11 +1,15 @@
 -- Verdicts on chunks: what the code finds.
-use Rattle.std.proofs.Common.{◌≡◌, ◌≢◌, ℕ, ◌<◌, ◌≤◌, true, false, List, [], ◌∷◌, ◌++◌, length, drop, arith, refl, sym, subst, ap, ◌∙◌, append-nil, ◌⊎◌, inl, inr, length-drop, length-append}
+use Rattle.std.proofs.Common.{◌≡◌, ◌≢◌, ℕ, ◌<◌, ◌≤◌, true, false, List, [], ◌∷◌, ◌++◌, length, drop, arith, refl, sym, subst, ap, ◌∙◌, append-nil, ◌⊎◌, inl, inr, length-drop, length-append, Option}
 use Rattle.gs_syntax.specs.declared.token.Token.{Token}
 use Rattle.gs_grammar.specs.Grammar.{IsChunkAt}
 use Rattle.gs_grammar.specs.declared.trees.Chunk.{Chunk}
-use Rattle.gs_parse_expr.specs.Answer.{IsTree, Lacks}
+use Rattle.gs_parse_expr.specs.Answer.{IsTree, IsTooDeep, Lacks}
 use Rattle.gs_parse.specs.declared.stage.Stage.{Stage}
-use Rattle.gs_parse.specs.Drafts.{HasAdded, HasJudged}
+use Rattle.gs_parse.specs.declared.judge.Draft.{Draft}
+use Rattle.gs_parse.specs.declared.judge.Wanted.{Wanted}
+use Rattle.gs_parse.specs.declared.judge.Wanted.TheVariants.{Faults, Trees}
+use Rattle.gs_parse.specs.Docs.{starts}
+use Rattle.gs_parse.specs.Drafts.{HasAdded, HasJudged, StandsFor, kept_for, starts_for, starts_with_tree, tree_for, trees_of}
 use Rattle.gs_parse.specs.Verdicts.{Fault, Kept, Dropped, IsDropped, at_first, bad_tokens, behind, first_class, may_stand, passed, takes, bad, misplaced}
 use Rattle.gs_parse.proofs.Classes.{class_first}
 
@@ -29,12 +33,29 @@ unfit_dropped one stage ts t end good tree unfit = misplaced good
     (λ h. let same = (one t h.0 ts (drop end ts) h.1 tree.0 h.2 tree.1 h.3).2 in let shallow = tree.4 in let deep = h.4 in omega (arith, same, shallow, deep))
     (λ u k stands. let same = one t u ts (drop end ts) [] tree.0 k.0 tree.1 k.1 in fits_not stage ts t u end tree.3 same.0 same.1 stands unfit)
 
+-- what stands at the front, where its tree may be there or not
+pub look_deep : (wanted : Wanted) (ts : List Token) → IsTooDeep (StandsFor wanted) ts 0 → IsTooDeep IsChunkAt ts 0
+look_deep wanted ts (found, r, d, stands, deep) = (stands.0, r, d, stands.1, deep)
+
+pub deep_look : (wanted : Wanted) (ts : List Token) → IsTooDeep IsChunkAt ts 0 → IsTooDeep (StandsFor wanted) ts 0
+deep_look wanted ts (t, r, d, stands, deep) = (tree_for wanted t, r, d, (t, stands, refl), deep)
+
+pub look_lacks : (wanted : Wanted) (ts : List Token) → Lacks (StandsFor wanted) ts 0 → Lacks IsChunkAt ts 0
+look_lacks wanted ts lacks t r d stands = lacks (tree_for wanted t) r d (t, stands, refl)
+
+-- a tree, and where it ends
+abbrev pub HasTree : List Token → ℕ → Type 0
+HasTree ts end = (t : Chunk) × IsTree IsChunkAt ts 0 t end
+
+pub look_tree : (wanted : Wanted) (ts : List Token) (found : Option Chunk) (end : ℕ) → IsTree (StandsFor wanted) ts 0 found end → (tree : HasTree ts end) × (found ≡ tree_for wanted tree.0)
+look_tree wanted ts found end (d, stands, from, within, shallow) = ((stands.0, (d, stands.1, from, within, shallow)), stands.2)
+
 -- the verdict on a chunk that is dropped
-pub judged_dropped : (old new : List Fault) (stage next : Stage) (ts : List Token) (faults : List Fault) → IsDropped stage ts faults → HasAdded old new stage next (Dropped faults) → HasJudged old new stage ts next
-judged_dropped old new stage next ts faults right added = record { verdict = Dropped faults; right = right; added = added }
+pub judged_dropped : (wanted : Wanted) (old new : Draft) (stage next : Stage) (ts : List Token) (faults : List Fault) → IsDropped stage ts faults → HasAdded wanted old new stage next ts (Dropped faults) → HasJudged wanted old new stage ts next
+judged_dropped wanted old new stage next ts faults right added = record { verdict = Dropped faults; right = right; added = added }
 
 -- an end that is unfit
-pub unfit_end : OneChunk → (stage : Stage) (ts : List Token) (end : ℕ) → bad_tokens ts ≡ [] → ((t : Chunk) × IsTree IsChunkAt ts 0 t end) → (end ≢ length ts) ⊎ (takes stage (first_class ts) ≡ false) → IsDropped stage ts (at_first 1 ts)
+pub unfit_end : OneChunk → (stage : Stage) (ts : List Token) (end : ℕ) → bad_tokens ts ≡ [] → HasTree ts end → (end ≢ length ts) ⊎ (takes stage (first_class ts) ≡ false) → IsDropped stage ts (at_first 1 ts)
 unfit_end one stage ts end good (t, tree) (inl short) = unfit_dropped one stage ts t end good tree (inl short)
 unfit_end one stage ts end good (t, tree) (inr unfit) = unfit_dropped one stage ts t end good tree (inr (ap (takes stage) (class_first tree.1) ∙ unfit))
 
@@ -43,31 +64,61 @@ drop-all [] = refl
 drop-all (t ∷ ts) = drop-all ts
 
 -- the verdict on a chunk that is kept
-pub judged_kept : (old : List Fault) (stage : Stage) (ts : List Token) (end : ℕ) → bad_tokens ts ≡ [] → ((t : Chunk) × IsTree IsChunkAt ts 0 t end) → end ≡ length ts → takes stage (first_class ts) ≡ true → HasJudged old old stage ts (behind stage (first_class ts))
-judged_kept old stage ts end good (t, tree) all fits =
+kept_added : (wanted : Wanted) (t : Chunk) → trees_of (tree_for wanted t) ≡ kept_for wanted (Kept t ∷ [])
+kept_added Faults t = refl
+kept_added Trees t = refl
+
+starts_added : (wanted : Wanted) (ts : List Token) (t : Chunk) → starts_with_tree ts (tree_for wanted t) ≡ starts_for wanted (ts ∷ []) (Kept t ∷ [])
+starts_added Faults ts t = refl
+starts_added Trees ts t = sym (append-nil (starts ts))
+
+pub judged_kept : (wanted : Wanted) (old new : Draft) (stage : Stage) (ts : List Token) (found : Option Chunk) (end : ℕ) → bad_tokens ts ≡ [] → IsTree (StandsFor wanted) ts 0 found end → end ≡ length ts →
+    takes stage (first_class ts) ≡ true → new.chunks.items ≡ old.chunks.items ++ trees_of found → new.starts.items ≡ old.starts.items ++ starts_with_tree ts found → new.faults.items ≡ old.faults.items →
+    HasJudged wanted old new stage ts (behind stage (first_class ts))
+judged_kept wanted old new stage ts found end good looked all fits chunks_new starts_new faults_new =
+    let seen = look_tree wanted ts found end looked in
+    let t = seen.0.0 in
+    let tree = seen.0.1 in
     let class = class_first tree.1 in
     record {
-      verdict = Kept t;
+      verdict = Kept seen.0.0;
       right = record {
         good = good;
-        tree = (tree.0, subst (λ r. IsChunkAt t ts r tree.0) (ap (λ n. drop n ts) all ∙ drop-all ts) tree.1, tree.4);
+        tree = (tree.0, subst (λ r. IsChunkAt seen.0.0 ts r tree.0) (ap (λ n. drop n ts) all ∙ drop-all ts) tree.1, tree.4);
         stands = ap (takes stage) class ∙ fits;
       };
       added = record {
-        faults = sym (append-nil old);
+        chunks = chunks_new ∙ ap (λ o. old.chunks.items ++ trees_of o) seen.1 ∙ ap (λ l. old.chunks.items ++ l) (kept_added wanted seen.0.0);
+        starts = starts_new ∙ ap (λ o. old.starts.items ++ starts_with_tree ts o) seen.1 ∙ ap (λ l. old.starts.items ++ l) (starts_added wanted ts seen.0.0);
+        faults = faults_new ∙ sym (append-nil old.faults.items);
         stages = ap (behind stage) (sym class);
       };
     }
 
+none_kept : (wanted : Wanted) (faults : List Fault) → kept_for wanted (Dropped faults ∷ []) ≡ []
+none_kept Faults faults = refl
+none_kept Trees faults = refl
+
+none_starts : (wanted : Wanted) (ts : List Token) (faults : List Fault) → starts_for wanted (ts ∷ []) (Dropped faults ∷ []) ≡ []
+none_starts Faults ts faults = refl
+none_starts Trees ts faults = refl
+
+-- nothing is added
+same_items : {A : Type 0} (old new more : List A) → new ≡ old → more ≡ [] → new ≡ old ++ more
+same_items old new more same none = same ∙ sym (append-nil old) ∙ ap (λ l. old ++ l) (sym none)
+
 some_bad : (ts : List Token) (xs ys : List Fault) → ys ≡ xs ++ bad_tokens ts → length xs < length ys → bad_tokens ts ≢ []
 some_bad ts xs ys e more none = let size = ap length e ∙ length-append xs (bad_tokens ts) in let small = ap length none in omega (arith, size, small)
 
-pub bad_judged : (old new : List Fault) (stage next : Stage) (ts : List Token) → new ≡ old ++ bad_tokens ts → length old < length new → next ≡ passed stage → HasJudged old new stage ts next
-bad_judged old new stage next ts e more n = record {
+pub bad_judged : (wanted : Wanted) (old new : Draft) (stage next : Stage) (ts : List Token) → new.chunks.items ≡ old.chunks.items → new.starts.items ≡ old.starts.items →
+    new.faults.items ≡ old.faults.items ++ bad_tokens ts → length old.faults.items < length new.faults.items → next ≡ passed stage → HasJudged wanted old new stage ts next
+bad_judged wanted old new stage next ts chunks_same starts_same e more n = record {
   verdict = Dropped (bad_tokens ts);
-  right = bad (some_bad ts old new e more);
+  right = bad (some_bad ts old.faults.items new.faults.items e more);
   added = record {
-    faults = e ∙ sym (ap (λ l. old ++ l) (append-nil (bad_tokens ts)));
+    chunks = same_items old.chunks.items new.chunks.items (kept_for wanted (Dropped (bad_tokens ts) ∷ [])) chunks_same (none_kept wanted (bad_tokens ts));
+    starts = same_items old.starts.items new.starts.items (starts_for wanted (ts ∷ []) (Dropped (bad_tokens ts) ∷ [])) starts_same (none_starts wanted ts (bad_tokens ts));
+    faults = e ∙ sym (ap (λ l. old.faults.items ++ l) (append-nil (bad_tokens ts)));
     stages = n;
   };
 }

@@ -1,16 +1,41 @@
 //! What is said of each chunk.
 
 ghost use Rattle.std.specs.Prelude.{◌≡◌, ◌<◌, ◌^◌, ◌++◌, ◌∷◌, [], length, IfOk, OnOk};
-ghost use Rattle.gs_parse.specs.Drafts.{HasAdded, HasJudged};
+ghost use Rattle.gs_parse_expr.specs.Answer.{IsParsed};
+ghost use Rattle.gs_syntax.specs.Chunks.{chunks_of};
+ghost use Rattle.gs_parse.specs.Drafts.{HasAdded, HasJudged, HasVerdicts, StandsFor, starts_with_tree, trees_of};
 ghost use Rattle.gs_parse.specs.Verdicts as spec;
-ghost use Rattle.gs_parse.specs.Verdicts.{Dropped};
+ghost use Rattle.gs_parse.specs.Verdicts.{Dropped, parts_of};
 
+use crate::part::part;
 use crate::stage::{Stage, first_class};
+use crate::starts::put_starts;
 use gs_base::{Mem, NoMemory};
 use gs_grammar::laws::one_chunk;
+use gs_grammar::trees::Chunk;
+use gs_parse_expr::at::{Parsed, chunk_at};
 use gs_parse_expr::end::{End, chunk_end};
+use gs_scan::chunk::chunks;
 use gs_syntax::token::{Span, Token, TokenKind};
 use std::alloc::{AllocError, Global};
+
+/// What is wanted of the chunks: their faults alone, or their trees too.
+#[derive(Clone, Copy, Debug, PartialEq, Eq)]
+pub enum Wanted {
+    Faults,
+    Trees,
+}
+
+/// What is said of the chunks so far.
+#[derive(Drop)]
+pub struct Draft {
+    /// The trees of those that are kept, where trees are wanted.
+    pub chunks: Vec<Chunk>,
+    /// The offsets at which these, their declarations and their specs begin.
+    pub starts: Vec<u32>,
+    /// The faults of those that are dropped, each a code and its place.
+    pub faults: Vec<(u16, Span)>,
+}
 
 fn is_bad(kind: &TokenKind) -> bool
     ensures { result ≡ spec.is_bad kind.now }
@@ -57,61 +82,124 @@ fn put_bad_tokens(faults: &mut Vec<(u16, Span)>, tokens: &[Token]) -> Result<(),
     Ok(())
 }
 
+/// What stands at the front of a chunk, and where it ends; its tree, where trees are wanted.
+fn look(alloc: Global, wanted: Wanted, tokens: &[Token]) -> Parsed<Option<Chunk>>
+    requires { length tokens.now < 2 ^ 32 }
+    ensures { IsParsed (StandsFor wanted) tokens.now 0 result }
+{
+    match wanted {
+        Wanted::Faults => match chunk_end(alloc, tokens, 0) {
+            End::At(end) => Parsed::Tree(None, end),
+            End::None => Parsed::None,
+            End::TooDeep => Parsed::TooDeep,
+            End::NoMemory => Parsed::NoMemory,
+        },
+        Wanted::Trees => match chunk_at(alloc, tokens, 0) {
+            Parsed::Tree(tree, end) => Parsed::Tree(Some(tree), end),
+            Parsed::None => Parsed::None,
+            Parsed::TooDeep => Parsed::TooDeep,
+            Parsed::NoMemory => Parsed::NoMemory,
+        },
+    }
+}
+
 /// Drops a chunk for a fault at its first token.
 fn drop_chunk(
-    faults: &mut Vec<(u16, Span)>,
+    draft: &mut Draft,
+    wanted: Wanted,
     stage: Stage,
     code: u16,
     tokens: &[Token],
 ) -> Mem<Stage>
-    ensures { IfOk result (λ next. HasAdded faults.old.items faults.new.items stage next (Dropped (spec.at_first code tokens.now))) }
+    ensures { IfOk result (λ next. HasAdded wanted draft.old draft.new stage next tokens.now (Dropped (spec.at_first code tokens.now))) }
 {
-    put(faults, at_first(code, tokens))?;
+    put(&mut draft.faults, at_first(code, tokens))?;
     Ok(stage.passed())
+}
+
+/// Keeps a chunk: its tree, and where it, its declarations and their specs begin, where the tree is there.
+fn keep_chunk(
+    alloc: Global,
+    draft: &mut Draft,
+    tree: Option<Chunk>,
+    tokens: &[Token],
+) -> Result<(), AllocError>
+    ensures chunks { OnOk result (draft.new.chunks.items ≡ draft.old.chunks.items ++ trees_of tree) }
+    ensures starts { OnOk result (draft.new.starts.items ≡ draft.old.starts.items ++ starts_with_tree tokens.now tree) }
+    ensures faults { draft.new.faults.items ≡ draft.old.faults.items }
+{
+    if let Some(tree) = tree {
+        draft.chunks.push(tree)?;
+        put_starts(alloc, &mut draft.starts, tokens)?;
+    }
+    Ok(())
 }
 
 /// Judges a chunk without bad tokens.
 fn judge_tree(
     alloc: Global,
-    faults: &mut Vec<(u16, Span)>,
+    draft: &mut Draft,
+    wanted: Wanted,
     stage: Stage,
     tokens: &[Token],
 ) -> Mem<Stage>
     requires few { length tokens.now < 2 ^ 32 }
     requires good { spec.bad_tokens tokens.now ≡ [] }
-    ensures { IfOk result (HasJudged faults.old.items faults.new.items stage tokens.now) }
+    ensures { IfOk result (HasJudged wanted draft.old draft.new stage tokens.now) }
 {
     one_chunk();
-    match chunk_end(alloc, tokens, 0) {
-        End::NoMemory => Err(NoMemory),
-        End::TooDeep => drop_chunk(faults, stage, 4, tokens),
-        End::None => drop_chunk(faults, stage, 1, tokens),
-        End::At(end) => {
+    match look(alloc, wanted, tokens) {
+        Parsed::NoMemory => Err(NoMemory),
+        Parsed::TooDeep => drop_chunk(draft, wanted, stage, 4, tokens),
+        Parsed::None => drop_chunk(draft, wanted, stage, 1, tokens),
+        Parsed::Tree(tree, end) => {
             let class = first_class(tokens);
             if end as usize == tokens.len() && stage.takes(class) {
+                keep_chunk(alloc, draft, tree, tokens)?;
                 Ok(stage.behind(class))
             } else {
-                drop_chunk(faults, stage, 1, tokens)
+                drop(tree);
+                drop_chunk(draft, wanted, stage, 1, tokens)
             }
         }
     }
 }
 
-/// Judges a chunk: adds its faults, and says what may stand behind it.
-pub fn judge(
+/// Judges a chunk: adds what is said of it, and says what may stand behind it.
+fn judge(
     alloc: Global,
-    faults: &mut Vec<(u16, Span)>,
+    draft: &mut Draft,
+    wanted: Wanted,
     stage: Stage,
     tokens: &[Token],
 ) -> Mem<Stage>
     requires { length tokens.now < 2 ^ 32 }
-    ensures { IfOk result (HasJudged faults.old.items faults.new.items stage tokens.now) }
+    ensures { IfOk result (HasJudged wanted draft.old draft.new stage tokens.now) }
 {
-    let before = faults.len();
-    put_bad_tokens(faults, tokens)?;
-    if faults.len() > before {
+    let before = draft.faults.len();
+    put_bad_tokens(&mut draft.faults, tokens)?;
+    if draft.faults.len() > before {
         Ok(stage.passed())
     } else {
-        judge_tree(alloc, faults, stage, tokens)
+        judge_tree(alloc, draft, wanted, stage, tokens)
     }
+}
+
+/// Judges the chunks of a file one behind the other.
+pub fn judge_chunks(alloc: Global, wanted: Wanted, tokens: &[Token]) -> Mem<Draft>
+    requires { length tokens.now < 2 ^ 32 }
+    ensures { IfOk result (HasVerdicts wanted (parts_of tokens.now (chunks_of tokens.now))) }
+{
+    let places = chunks(alloc, tokens)?;
+    let mut draft = Draft {
+        chunks: Vec::new(alloc),
+        starts: Vec::new(alloc),
+        faults: Vec::new(alloc),
+    };
+    let mut stage = Stage::Clause;
+    for place in &places {
+        let chunk = part(tokens, place.0 as usize, place.1 as usize);
+        stage = judge(alloc, &mut draft, wanted, stage, chunk)?;
+    }
+    Ok(draft)
 }

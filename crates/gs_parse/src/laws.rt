@@ -8,6 +8,7 @@ ghost use Rattle.gs_parse.specs.Files.{IsRead};
 ghost use Rattle.gs_parse.specs.Verdicts.{Fault};
 
 use gs_grammar::laws::one_chunk;
+use gs_scan::laws::one_comments;
 use gs_syntax::laws::one_list;
 
 /// A text has at most one token more than bytes.
@@ -15,10 +16,11 @@ pub fn few_tokens()
     ensures { (text : List ℕ) (tokens : List Token) → AreTokens text tokens → length tokens ≤ length text + 1 }
 {}
 
-/// A file has at most one list of chunks and one of faults.
+/// A file has at most one list of chunks, one of docs and one of faults.
 pub fn one_reading()
-    ensures { (bytes : List ℕ) (cs ds : List Chunk) (fs gs : List Fault) → IsRead bytes cs fs → IsRead bytes ds gs → (cs ≡ ds) × (fs ≡ gs) }
+    ensures { (bytes : List ℕ) (cs ds : List Chunk) (ms ns : List (ℕ × List ℕ)) (fs gs : List Fault) → IsRead bytes cs ms fs → IsRead bytes ds ns gs → (cs ≡ ds) × (ms ≡ ns) × (fs ≡ gs) }
 {
     one_chunk();
     one_list();
+    one_comments();
 }

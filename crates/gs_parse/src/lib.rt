@@ -1,8 +1,13 @@
-//! What the form of a file is: which chunks it has, and the faults of those that it may not have.
+//! What the form of a file is: which chunks it has, the docs of what they declare, and the faults of those that it may not
+//! have.
 #![tactic(auto)]
 
+mod docs;
 pub mod faults;
 mod judge;
 pub mod laws;
+pub mod parse;
 mod part;
 mod stage;
+mod starts;
+mod text;
