@@ -1,17 +1,16 @@
 //! Trees of chunks.
-ghost use Rattle.std.specs.Prelude.{◌≡◌, ◌∷◌};
+ghost use Rattle.std.specs.Prelude.{[], ◌≡◌, ◌∷◌, IfOk};
 ghost use Rattle.gs_grammar.specs.Reference as reference;
 ghost use Rattle.gs_places.specs.Places.{stands};
 ghost use Rattle.gs_build_decls.specs.Tails.{tail_of_method_decl};
 ghost use Rattle.gs_build_base.specs.Pieces.{Builds, Gives};
 
-use crate::conditions::alone;
+use crate::conditions::is_receiver;
 use crate::decls::{decl_from, import_spec_tree, import_specs_tree};
 use gs_build_base::copies::copy;
 use gs_build_base::front::{first_word_span, name_token};
 use gs_build_base::maker::{Maker, block_made};
 use gs_build_base::pieces::{Piece, Stop};
-use gs_build_pairs::conditions::is_receiver;
 use gs_grammar::trees::{Block, Chunk, Signature, Top};
 use gs_places::at::at_import_specs;
 use gs_places::classes::{is_decl_start, is_semi};
@@ -24,7 +23,17 @@ use gs_rows::decls::{
 use gs_rows_expr::operands::block_by;
 use gs_rows_expr::types::{params, signature};
 use gs_syntax::token::{Keyword, Operator, Token};
-use std::alloc::Global;
+use sqlite_items::Items;
+use std::alloc::{AllocError, Global};
+
+/// The list of one item.
+fn alone<T: Drop>(alloc: Global, item: T) -> Result<Items<T>, AllocError>
+    ensures { IfOk result (λ xs. xs ≡ item ∷ []) }
+{
+    let mut items = Items::new(alloc);
+    items.push(item)?;
+    Ok(items)
+}
 
 /// The form `a_body` of the body of a function.
 #[inline(never)]

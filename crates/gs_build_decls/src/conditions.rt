@@ -1,14 +1,17 @@
-//! Small lists.
-ghost use Rattle.std.specs.Prelude.{[], ◌≡◌, ◌∷◌, IfOk};
+//! What the rules ask of trees that are built.
+ghost use Rattle.std.specs.Prelude.{◌≡◌};
+ghost use Rattle.gs_grammar.specs.Parts as spec;
 
-use sqlite_items::Items;
-use std::alloc::{AllocError, Global};
+use gs_build_base::parts::is_single;
+use gs_grammar::trees::{Parameter, Parameters};
 
-/// The list of one item.
-pub fn alone<T: Drop>(alloc: Global, item: T) -> Result<Items<T>, AllocError>
-    ensures { IfOk result (λ xs. xs ≡ item ∷ []) }
+/// Whether the parameters are a receiver: one parameter, with at most one name.
+pub fn is_receiver(params: &Parameters) -> bool
+    ensures { result ≡ spec.is_receiver params.now }
 {
-    let mut items = Items::new(alloc);
-    items.push(item)?;
-    Ok(items)
+    match params.list.as_slice() {
+        [Parameter::Plain(_)] => true,
+        [Parameter::Named(names, _)] => is_single(names),
+        _ => false,
+    }
 }

@@ -1,5 +1,5 @@
 -- What comes of pieces that are put together.
-use Rattle.std.specs.Prelude.{◌≡◌, Bool, if◌then◌else◌, Result, Ok, Err}
+use Rattle.std.specs.Prelude.{◌≡◌, Result, Ok, Err}
 use Rattle.gs_places.specs.declared.rest.Rest.{Rest}
 use Rattle.gs_build_base.specs.declared.pieces.Piece.{Piece}
 use Rattle.gs_build_base.specs.declared.pieces.Stop.{Stop}
@@ -22,8 +22,3 @@ abbrev pub IsPair : {A B : Type 0} → Result (Piece A) Stop → Result (Piece B
 IsPair (Err e) two r = r ≡ Err e
 IsPair (Ok p) (Err e) r = r ≡ Err e
 IsPair (Ok p) (Ok q) r = r ≡ Ok (record { tree = (p.tree, q.tree); rest = q.rest })
-
--- the tree, where it is of this kind
-abbrev pub IsWhere : {A : Type 0} → (A → Bool) → Result (Piece A) Stop → Result (Piece A) Stop → Type 0
-IsWhere test (Err e) r = r ≡ Err e
-IsWhere test (Ok p) r = r ≡ (if test p.tree then Ok p else Err stop.Absent)

@@ -1,17 +1,12 @@
 //! Trees in boxes, and tokens as trees.
-ghost use Rattle.std.specs.Prelude.{◌≡◌, true};
-ghost use Rattle.gs_grammar.specs.Parts as parts;
-ghost use Rattle.gs_grammar.specs.declared.trees.TypeExpr.TheVariants as types;
-ghost use Rattle.gs_build_pairs.specs.Pairs.{Holds, IsBoxed, IsWhere};
+ghost use Rattle.gs_build_pairs.specs.Pairs.{Holds, IsBoxed};
 
-use crate::conditions::is_receiver;
 use gs_build_base::copies::copy;
-use gs_build_base::parts::is_single;
 use gs_build_base::pieces::{Piece, Stop};
-use gs_grammar::trees::{Expr, Parameters, Signature, TypeExpr};
+use gs_grammar::trees::{Expr, Signature, TypeExpr};
 use gs_places::rest::Rest;
 use gs_syntax::token::Token;
-use sqlite_items::{Boxed, Items};
+use sqlite_items::Boxed;
 use std::alloc::Global;
 
 /// The tree in a box.
@@ -66,61 +61,4 @@ pub fn token<'a>(alloc: Global, x: &Token, rest: Rest<'a>) -> Result<Piece<'a, T
         tree: copy(alloc, x)?,
         rest,
     })
-}
-
-/// The type with this name, before these tokens.
-pub fn named_type<'a>(
-    alloc: Global,
-    name: &Token,
-    rest: Rest<'a>,
-) -> Result<Piece<'a, TypeExpr>, Stop>
-    ensures { Holds (types.Name name.now) rest.entry result }
-{
-    Ok(Piece {
-        tree: TypeExpr::Name(copy(alloc, name)?),
-        rest,
-    })
-}
-
-/// The type with this name of this package, before these tokens.
-pub fn qualified_type<'a>(
-    alloc: Global,
-    qualifier: &Token,
-    name: &Token,
-    rest: Rest<'a>,
-) -> Result<Piece<'a, TypeExpr>, Stop>
-    ensures { Holds (types.Qualified qualifier.now name.now) rest.entry result }
-{
-    Ok(Piece {
-        tree: TypeExpr::Qualified(copy(alloc, qualifier)?, copy(alloc, name)?),
-        rest,
-    })
-}
-
-/// The names, where it is one alone.
-pub fn single<'a>(
-    made: Result<Piece<'a, Items<Token>>, Stop>,
-) -> Result<Piece<'a, Items<Token>>, Stop>
-    ensures { IsWhere parts.is_single made.entry result }
-{
-    let Piece { tree, rest } = made?;
-    if is_single(&tree) {
-        Ok(Piece { tree, rest })
-    } else {
-        Err(Stop::Absent)
-    }
-}
-
-/// The parameters, where they are a receiver.
-pub fn receiver<'a>(
-    made: Result<Piece<'a, Parameters>, Stop>,
-) -> Result<Piece<'a, Parameters>, Stop>
-    ensures { IsWhere parts.is_receiver made.entry result }
-{
-    let Piece { tree, rest } = made?;
-    if is_receiver(&tree) {
-        Ok(Piece { tree, rest })
-    } else {
-        Err(Stop::Absent)
-    }
 }

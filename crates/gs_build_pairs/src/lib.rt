@@ -2,5 +2,4 @@
 #![tactic(auto)]
 
 pub mod boxes;
-pub mod conditions;
 pub mod pairs;

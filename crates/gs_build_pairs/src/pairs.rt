@@ -3,8 +3,7 @@ ghost use Rattle.gs_build_pairs.specs.Pairs.{IsPair};
 
 use gs_build_base::pieces::{Piece, Stop};
 use gs_grammar::trees::{
-    Arm, Block, Clause, Comm, ElementValue, Expr, LiteralValue, Parameters, RangeLeft, Signature,
-    Simple, Stmt, Suffix, TypeClause, TypeExpr,
+    Arm, Block, Clause, Comm, Expr, RangeLeft, Simple, Stmt, TypeClause, TypeExpr,
 };
 use gs_syntax::token::{Span, Token};
 use sqlite_items::{Boxed, Items};
@@ -22,106 +21,6 @@ fn pair<'a, A: Drop, B: Drop>(
         tree: (one.tree, two.tree),
         rest: two.rest,
     })
-}
-
-/// Names and their type.
-pub fn names_and_type<'a>(
-    one: Result<Piece<'a, Items<Token>>, Stop>,
-    two: Result<Piece<'a, TypeExpr>, Stop>,
-) -> Result<Piece<'a, (Items<Token>, TypeExpr)>, Stop>
-    ensures { IsPair one.entry two.entry result }
-{
-    pair(one, two)
-}
-
-/// Names, their type and their tag.
-pub fn names_type_and_tag<'a>(
-    one: Result<Piece<'a, (Items<Token>, TypeExpr)>, Stop>,
-    two: Result<Piece<'a, Option<Token>>, Stop>,
-) -> Result<Piece<'a, ((Items<Token>, TypeExpr), Option<Token>)>, Stop>
-    ensures { IsPair one.entry two.entry result }
-{
-    pair(one, two)
-}
-
-/// Names and their values.
-pub fn names_and_exprs<'a>(
-    one: Result<Piece<'a, Items<Token>>, Stop>,
-    two: Result<Piece<'a, Items<Expr>>, Stop>,
-) -> Result<Piece<'a, (Items<Token>, Items<Expr>)>, Stop>
-    ensures { IsPair one.entry two.entry result }
-{
-    pair(one, two)
-}
-
-/// Names, their type and their values.
-pub fn names_type_and_exprs<'a>(
-    one: Result<Piece<'a, (Items<Token>, TypeExpr)>, Stop>,
-    two: Result<Piece<'a, Items<Expr>>, Stop>,
-) -> Result<Piece<'a, ((Items<Token>, TypeExpr), Items<Expr>)>, Stop>
-    ensures { IsPair one.entry two.entry result }
-{
-    pair(one, two)
-}
-
-/// A name and its type.
-pub fn name_and_type<'a>(
-    one: Result<Piece<'a, Token>, Stop>,
-    two: Result<Piece<'a, TypeExpr>, Stop>,
-) -> Result<Piece<'a, (Token, TypeExpr)>, Stop>
-    ensures { IsPair one.entry two.entry result }
-{
-    pair(one, two)
-}
-
-/// An embedded type and its tag.
-pub fn type_and_tag<'a>(
-    one: Result<Piece<'a, TypeExpr>, Stop>,
-    two: Result<Piece<'a, Option<Token>>, Stop>,
-) -> Result<Piece<'a, (TypeExpr, Option<Token>)>, Stop>
-    ensures { IsPair one.entry two.entry result }
-{
-    pair(one, two)
-}
-
-/// An embedded pointer and its tag.
-pub fn boxed_type_and_tag<'a>(
-    one: Result<Piece<'a, Boxed<TypeExpr>>, Stop>,
-    two: Result<Piece<'a, Option<Token>>, Stop>,
-) -> Result<Piece<'a, (Boxed<TypeExpr>, Option<Token>)>, Stop>
-    ensures { IsPair one.entry two.entry result }
-{
-    pair(one, two)
-}
-
-/// A name and its signature.
-pub fn name_and_signature<'a>(
-    one: Result<Piece<'a, Token>, Stop>,
-    two: Result<Piece<'a, Signature>, Stop>,
-) -> Result<Piece<'a, (Token, Signature)>, Stop>
-    ensures { IsPair one.entry two.entry result }
-{
-    pair(one, two)
-}
-
-/// Parameters and results.
-pub fn two_parameters<'a>(
-    one: Result<Piece<'a, Parameters>, Stop>,
-    two: Result<Piece<'a, Parameters>, Stop>,
-) -> Result<Piece<'a, (Parameters, Parameters)>, Stop>
-    ensures { IsPair one.entry two.entry result }
-{
-    pair(one, two)
-}
-
-/// Parameters and the type of the result.
-pub fn parameters_and_type<'a>(
-    one: Result<Piece<'a, Parameters>, Stop>,
-    two: Result<Piece<'a, TypeExpr>, Stop>,
-) -> Result<Piece<'a, (Parameters, TypeExpr)>, Stop>
-    ensures { IsPair one.entry two.entry result }
-{
-    pair(one, two)
 }
 
 /// The length of an array and its element.
@@ -144,26 +43,6 @@ pub fn two_types<'a>(
     pair(one, two)
 }
 
-/// An operand and what follows it.
-pub fn expr_and_operands<'a>(
-    one: Result<Piece<'a, Expr>, Stop>,
-    two: Result<Piece<'a, Items<(Token, Expr)>>, Stop>,
-) -> Result<Piece<'a, (Expr, Items<(Token, Expr)>)>, Stop>
-    ensures { IsPair one.entry two.entry result }
-{
-    pair(one, two)
-}
-
-/// An operand and its suffixes.
-pub fn expr_and_suffixes<'a>(
-    one: Result<Piece<'a, Expr>, Stop>,
-    two: Result<Piece<'a, Items<Suffix>>, Stop>,
-) -> Result<Piece<'a, (Expr, Items<Suffix>)>, Stop>
-    ensures { IsPair one.entry two.entry result }
-{
-    pair(one, two)
-}
-
 /// A token and an expression.
 pub fn token_and_expr<'a>(
     one: Result<Piece<'a, Token>, Stop>,
@@ -174,111 +53,11 @@ pub fn token_and_expr<'a>(
     pair(one, two)
 }
 
-/// An operator and its operand.
-pub fn token_and_boxed_expr<'a>(
-    one: Result<Piece<'a, Token>, Stop>,
-    two: Result<Piece<'a, Boxed<Expr>>, Stop>,
-) -> Result<Piece<'a, (Token, Boxed<Expr>)>, Stop>
-    ensures { IsPair one.entry two.entry result }
-{
-    pair(one, two)
-}
-
-/// A name and a literal value.
-pub fn name_and_literal<'a>(
-    one: Result<Piece<'a, Token>, Stop>,
-    two: Result<Piece<'a, LiteralValue>, Stop>,
-) -> Result<Piece<'a, (Token, LiteralValue)>, Stop>
-    ensures { IsPair one.entry two.entry result }
-{
-    pair(one, two)
-}
-
-/// The key and the value of an element.
-pub fn two_values<'a>(
-    one: Result<Piece<'a, ElementValue>, Stop>,
-    two: Result<Piece<'a, ElementValue>, Stop>,
-) -> Result<Piece<'a, (ElementValue, ElementValue)>, Stop>
-    ensures { IsPair one.entry two.entry result }
-{
-    pair(one, two)
-}
-
-/// A type and its literal value.
-pub fn type_and_literal<'a>(
-    one: Result<Piece<'a, Boxed<TypeExpr>>, Stop>,
-    two: Result<Piece<'a, LiteralValue>, Stop>,
-) -> Result<Piece<'a, (Boxed<TypeExpr>, LiteralValue)>, Stop>
-    ensures { IsPair one.entry two.entry result }
-{
-    pair(one, two)
-}
-
-/// The signature and the body of a function literal.
-pub fn signature_and_block<'a>(
-    one: Result<Piece<'a, Boxed<Signature>>, Stop>,
-    two: Result<Piece<'a, Block>, Stop>,
-) -> Result<Piece<'a, (Boxed<Signature>, Block)>, Stop>
-    ensures { IsPair one.entry two.entry result }
-{
-    pair(one, two)
-}
-
 /// Two expressions.
 pub fn two_exprs<'a>(
     one: Result<Piece<'a, Expr>, Stop>,
     two: Result<Piece<'a, Expr>, Stop>,
 ) -> Result<Piece<'a, (Expr, Expr)>, Stop>
-    ensures { IsPair one.entry two.entry result }
-{
-    pair(one, two)
-}
-
-/// Two bounds of a slice.
-pub fn expr_and_bound<'a>(
-    one: Result<Piece<'a, Expr>, Stop>,
-    two: Result<Piece<'a, Option<Expr>>, Stop>,
-) -> Result<Piece<'a, (Expr, Option<Expr>)>, Stop>
-    ensures { IsPair one.entry two.entry result }
-{
-    pair(one, two)
-}
-
-/// The bounds of a full slice.
-pub fn bound_and_ends<'a>(
-    one: Result<Piece<'a, Option<Expr>>, Stop>,
-    two: Result<Piece<'a, (Expr, Expr, Span)>, Stop>,
-) -> Result<Piece<'a, (Option<Expr>, (Expr, Expr, Span))>, Stop>
-    ensures { IsPair one.entry two.entry result }
-{
-    pair(one, two)
-}
-
-/// The signature and the body of a function.
-pub fn signature_and_body<'a>(
-    one: Result<Piece<'a, Signature>, Stop>,
-    two: Result<Piece<'a, Option<Block>>, Stop>,
-) -> Result<Piece<'a, (Signature, Option<Block>)>, Stop>
-    ensures { IsPair one.entry two.entry result }
-{
-    pair(one, two)
-}
-
-/// A function.
-pub fn name_signature_and_body<'a>(
-    one: Result<Piece<'a, Token>, Stop>,
-    two: Result<Piece<'a, (Signature, Option<Block>)>, Stop>,
-) -> Result<Piece<'a, (Token, (Signature, Option<Block>))>, Stop>
-    ensures { IsPair one.entry two.entry result }
-{
-    pair(one, two)
-}
-
-/// A method.
-pub fn receiver_and_function<'a>(
-    one: Result<Piece<'a, Parameters>, Stop>,
-    two: Result<Piece<'a, (Token, (Signature, Option<Block>))>, Stop>,
-) -> Result<Piece<'a, (Parameters, (Token, (Signature, Option<Block>)))>, Stop>
     ensures { IsPair one.entry two.entry result }
 {
     pair(one, two)

@@ -9,7 +9,7 @@ use gs_syntax::token::Token;
 use std::alloc::Global;
 
 /// The deepest nesting that a tree may have.
-pub const LIMIT: u8 = 200;
+pub const LIMIT: u32 = 200;
 
 /// The place behind the tree that stands at a place, that none stands there, that it nests deeper than 200, or that no memory
 /// was left to say.

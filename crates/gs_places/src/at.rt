@@ -6,6 +6,7 @@ ghost use Rattle.gs_places.specs.Spots.{Spots};
 use crate::place::Levels;
 use crate::rest::{Rest, Spot};
 
+#[inline(always)]
 #[tactic(auto, using(crate::proofs::Within::within_idents), unfolding(crate::specs::Places::place))]
 pub fn at_idents<'a>(s: Rest<'a>) -> Option<Spot<'a>>
     ensures { Spots result ((stands s.entry.tokens.now).idents) }
@@ -13,6 +14,7 @@ pub fn at_idents<'a>(s: Rest<'a>) -> Option<Spot<'a>>
     s.jump(s.here().types.idents)
 }
 
+#[inline(always)]
 #[tactic(auto, using(crate::proofs::Within::within_type), unfolding(crate::specs::Places::place))]
 pub fn at_type<'a>(s: Rest<'a>) -> Option<Spot<'a>>
     ensures { Spots result ((stands s.entry.tokens.now).type) }
@@ -20,6 +22,7 @@ pub fn at_type<'a>(s: Rest<'a>) -> Option<Spot<'a>>
     s.jump(s.here().types.type_expr)
 }
 
+#[inline(always)]
 #[tactic(auto, using(crate::proofs::Within::within_fields), unfolding(crate::specs::Places::place))]
 pub fn at_fields<'a>(s: Rest<'a>) -> Option<Spot<'a>>
     ensures { Spots result ((stands s.entry.tokens.now).fields) }
@@ -27,6 +30,7 @@ pub fn at_fields<'a>(s: Rest<'a>) -> Option<Spot<'a>>
     s.jump(s.here().types.fields)
 }
 
+#[inline(always)]
 #[tactic(auto, using(crate::proofs::Within::within_members), unfolding(crate::specs::Places::place))]
 pub fn at_members<'a>(s: Rest<'a>) -> Option<Spot<'a>>
     ensures { Spots result ((stands s.entry.tokens.now).members) }
@@ -34,6 +38,7 @@ pub fn at_members<'a>(s: Rest<'a>) -> Option<Spot<'a>>
     s.jump(s.here().types.members)
 }
 
+#[inline(always)]
 #[tactic(auto, using(crate::proofs::Within::within_unnamed), unfolding(crate::specs::Places::place))]
 pub fn at_unnamed<'a>(dots: bool, s: Rest<'a>) -> Option<Spot<'a>>
     ensures { Spots result ((stands s.entry.tokens.now).unnamed dots) }
@@ -46,6 +51,7 @@ pub fn at_unnamed<'a>(dots: bool, s: Rest<'a>) -> Option<Spot<'a>>
     })
 }
 
+#[inline(always)]
 #[tactic(auto, using(crate::proofs::Within::within_named_params), unfolding(crate::specs::Places::place))]
 pub fn at_named_params<'a>(dots: bool, s: Rest<'a>) -> Option<Spot<'a>>
     ensures { Spots result ((stands s.entry.tokens.now).named_params dots) }
@@ -54,6 +60,7 @@ pub fn at_named_params<'a>(dots: bool, s: Rest<'a>) -> Option<Spot<'a>>
     s.jump(if dots { types.named_dots } else { types.named })
 }
 
+#[inline(always)]
 #[tactic(auto, using(crate::proofs::Within::within_expr), unfolding(crate::specs::Places::place))]
 pub fn at_inner<'a>(s: Rest<'a>) -> Option<Spot<'a>>
     ensures { Spots result ((stands s.entry.tokens.now).expr 5 false true) }
@@ -61,6 +68,7 @@ pub fn at_inner<'a>(s: Rest<'a>) -> Option<Spot<'a>>
     s.jump(s.here().exprs.inner)
 }
 
+#[inline(always)]
 #[tactic(auto, using(crate::proofs::Within::within_suffixes), unfolding(crate::specs::Places::place))]
 pub fn at_suffixes<'a>(s: Rest<'a>) -> Option<Spot<'a>>
     ensures { Spots result ((stands s.entry.tokens.now).suffixes) }
@@ -68,6 +76,7 @@ pub fn at_suffixes<'a>(s: Rest<'a>) -> Option<Spot<'a>>
     s.jump(s.here().exprs.suffixes)
 }
 
+#[inline(always)]
 #[tactic(auto, using(crate::proofs::Within::within_args), unfolding(crate::specs::Places::place))]
 pub fn at_args<'a>(s: Rest<'a>) -> Option<Spot<'a>>
     ensures { Spots result ((stands s.entry.tokens.now).args) }
@@ -75,6 +84,7 @@ pub fn at_args<'a>(s: Rest<'a>) -> Option<Spot<'a>>
     s.jump(s.here().exprs.args)
 }
 
+#[inline(always)]
 #[tactic(auto, using(crate::proofs::Within::within_elements), unfolding(crate::specs::Places::place))]
 pub fn at_elements<'a>(s: Rest<'a>) -> Option<Spot<'a>>
     ensures { Spots result ((stands s.entry.tokens.now).elements) }
@@ -83,6 +93,7 @@ pub fn at_elements<'a>(s: Rest<'a>) -> Option<Spot<'a>>
 }
 
 /// The expressions of a place, in a header or not.
+#[inline(always)]
 #[tactic(auto, unfolding(crate::specs::Places::place))]
 fn levels<'a>(header: bool, s: Rest<'a>) -> &'a Levels
     ensures { result.now ≡ levels_at header s.entry.tokens.now }
@@ -91,6 +102,7 @@ fn levels<'a>(header: bool, s: Rest<'a>) -> &'a Levels
     if header { &exprs.header } else { &exprs.plain }
 }
 
+#[inline(always)]
 #[tactic(auto, using(crate::proofs::Within::within_unary))]
 pub fn at_unary<'a>(header: bool, first: bool, s: Rest<'a>) -> Option<Spot<'a>>
     ensures { Spots result ((stands s.entry.tokens.now).unary header first) }
@@ -103,6 +115,7 @@ pub fn at_unary<'a>(header: bool, first: bool, s: Rest<'a>) -> Option<Spot<'a>>
     })
 }
 
+#[inline(always)]
 #[tactic(auto, using(crate::proofs::Within::within_expr, crate::proofs::Within::expr_zero))]
 pub fn at_expr<'a>(level: u8, header: bool, s: Rest<'a>) -> Option<Spot<'a>>
     requires { level ≤ 5 }
@@ -120,6 +133,7 @@ pub fn at_expr<'a>(level: u8, header: bool, s: Rest<'a>) -> Option<Spot<'a>>
     s.jump(cell)
 }
 
+#[inline(always)]
 #[tactic(auto, using(crate::proofs::Within::within_operands))]
 pub fn at_operands<'a>(level: u8, header: bool, s: Rest<'a>) -> Option<Spot<'a>>
     requires { level ≤ 4 }
@@ -136,6 +150,7 @@ pub fn at_operands<'a>(level: u8, header: bool, s: Rest<'a>) -> Option<Spot<'a>>
     s.jump(cell)
 }
 
+#[inline(always)]
 #[tactic(auto, using(crate::proofs::Within::within_exprs))]
 pub fn at_exprs<'a>(header: bool, s: Rest<'a>) -> Option<Spot<'a>>
     ensures { Spots result ((stands s.entry.tokens.now).exprs header) }
@@ -143,6 +158,7 @@ pub fn at_exprs<'a>(header: bool, s: Rest<'a>) -> Option<Spot<'a>>
     s.jump(levels(header, s).exprs)
 }
 
+#[inline(always)]
 #[tactic(auto, using(crate::proofs::Within::within_stmts), unfolding(crate::specs::Places::place))]
 pub fn at_stmts<'a>(s: Rest<'a>) -> Option<Spot<'a>>
     ensures { Spots result ((stands s.entry.tokens.now).stmts) }
@@ -150,6 +166,7 @@ pub fn at_stmts<'a>(s: Rest<'a>) -> Option<Spot<'a>>
     s.jump(s.here().lists.stmts)
 }
 
+#[inline(always)]
 #[tactic(auto, using(crate::proofs::Within::within_stmt), unfolding(crate::specs::Places::place))]
 pub fn at_stmt<'a>(s: Rest<'a>) -> Option<Spot<'a>>
     ensures { Spots result ((stands s.entry.tokens.now).stmt) }
@@ -157,6 +174,7 @@ pub fn at_stmt<'a>(s: Rest<'a>) -> Option<Spot<'a>>
     s.jump(s.here().lists.stmt)
 }
 
+#[inline(always)]
 #[tactic(auto, using(crate::proofs::Within::within_arms), unfolding(crate::specs::Places::place))]
 pub fn at_arms<'a>(s: Rest<'a>) -> Option<Spot<'a>>
     ensures { Spots result ((stands s.entry.tokens.now).arms) }
@@ -164,6 +182,7 @@ pub fn at_arms<'a>(s: Rest<'a>) -> Option<Spot<'a>>
     s.jump(s.here().lists.arms)
 }
 
+#[inline(always)]
 #[tactic(auto, using(crate::proofs::Within::within_clauses), unfolding(crate::specs::Places::place))]
 pub fn at_clauses<'a>(s: Rest<'a>) -> Option<Spot<'a>>
     ensures { Spots result ((stands s.entry.tokens.now).clauses) }
@@ -171,6 +190,7 @@ pub fn at_clauses<'a>(s: Rest<'a>) -> Option<Spot<'a>>
     s.jump(s.here().lists.clauses)
 }
 
+#[inline(always)]
 #[tactic(auto, using(crate::proofs::Within::within_type_clauses), unfolding(crate::specs::Places::place))]
 pub fn at_type_clauses<'a>(s: Rest<'a>) -> Option<Spot<'a>>
     ensures { Spots result ((stands s.entry.tokens.now).type_clauses) }
@@ -178,6 +198,7 @@ pub fn at_type_clauses<'a>(s: Rest<'a>) -> Option<Spot<'a>>
     s.jump(s.here().lists.type_clauses)
 }
 
+#[inline(always)]
 #[tactic(auto, using(crate::proofs::Within::within_comm_clauses), unfolding(crate::specs::Places::place))]
 pub fn at_comm_clauses<'a>(s: Rest<'a>) -> Option<Spot<'a>>
     ensures { Spots result ((stands s.entry.tokens.now).comm_clauses) }
@@ -185,6 +206,7 @@ pub fn at_comm_clauses<'a>(s: Rest<'a>) -> Option<Spot<'a>>
     s.jump(s.here().lists.comm_clauses)
 }
 
+#[inline(always)]
 #[tactic(auto, using(crate::proofs::Within::within_types), unfolding(crate::specs::Places::place))]
 pub fn at_types<'a>(s: Rest<'a>) -> Option<Spot<'a>>
     ensures { Spots result ((stands s.entry.tokens.now).types) }
@@ -192,6 +214,7 @@ pub fn at_types<'a>(s: Rest<'a>) -> Option<Spot<'a>>
     s.jump(s.here().lists.types)
 }
 
+#[inline(always)]
 #[tactic(auto, using(crate::proofs::Within::within_const_specs), unfolding(crate::specs::Places::place))]
 pub fn at_const_specs<'a>(s: Rest<'a>) -> Option<Spot<'a>>
     ensures { Spots result ((stands s.entry.tokens.now).const_specs false) }
@@ -199,6 +222,7 @@ pub fn at_const_specs<'a>(s: Rest<'a>) -> Option<Spot<'a>>
     s.jump(s.here().lists.const_specs)
 }
 
+#[inline(always)]
 #[tactic(auto, using(crate::proofs::Within::within_type_specs), unfolding(crate::specs::Places::place))]
 pub fn at_type_specs<'a>(s: Rest<'a>) -> Option<Spot<'a>>
     ensures { Spots result ((stands s.entry.tokens.now).type_specs) }
@@ -206,6 +230,7 @@ pub fn at_type_specs<'a>(s: Rest<'a>) -> Option<Spot<'a>>
     s.jump(s.here().lists.type_specs)
 }
 
+#[inline(always)]
 #[tactic(auto, using(crate::proofs::Within::within_var_specs), unfolding(crate::specs::Places::place))]
 pub fn at_var_specs<'a>(s: Rest<'a>) -> Option<Spot<'a>>
     ensures { Spots result ((stands s.entry.tokens.now).var_specs) }
@@ -213,6 +238,7 @@ pub fn at_var_specs<'a>(s: Rest<'a>) -> Option<Spot<'a>>
     s.jump(s.here().lists.var_specs)
 }
 
+#[inline(always)]
 #[tactic(auto, using(crate::proofs::Within::within_import_specs), unfolding(crate::specs::Places::place))]
 pub fn at_import_specs<'a>(s: Rest<'a>) -> Option<Spot<'a>>
     ensures { Spots result ((stands s.entry.tokens.now).import_specs) }

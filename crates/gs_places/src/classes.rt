@@ -4,6 +4,7 @@ ghost use Rattle.gs_grammar.specs.Front as spec;
 
 use gs_syntax::token::{Keyword, Operator, TokenKind};
 
+#[inline(always)]
 pub fn is_basic(kind: &TokenKind) -> bool
     ensures { result ≡ spec.is_basic kind.now }
 {
@@ -17,6 +18,7 @@ pub fn is_basic(kind: &TokenKind) -> bool
     }
 }
 
+#[inline(always)]
 pub fn is_semi(kind: &TokenKind) -> bool
     ensures { result ≡ spec.is_semi kind.now }
 {
@@ -26,6 +28,7 @@ pub fn is_semi(kind: &TokenKind) -> bool
     }
 }
 
+#[inline(always)]
 pub fn is_sign(kind: &TokenKind) -> bool
     ensures { result ≡ spec.is_sign kind.now }
 {
@@ -39,6 +42,7 @@ pub fn is_sign(kind: &TokenKind) -> bool
     }
 }
 
+#[inline(always)]
 pub fn is_update(kind: &TokenKind) -> bool
     ensures { result ≡ spec.is_update kind.now }
 {
@@ -58,6 +62,7 @@ pub fn is_update(kind: &TokenKind) -> bool
     }
 }
 
+#[inline(always)]
 pub fn is_step(kind: &TokenKind) -> bool
     ensures { result ≡ spec.is_step kind.now }
 {
@@ -67,6 +72,7 @@ pub fn is_step(kind: &TokenKind) -> bool
     }
 }
 
+#[inline(always)]
 pub fn is_goes_on(kind: &TokenKind) -> bool
     ensures { result ≡ spec.is_goes_on kind.now }
 {
@@ -79,6 +85,7 @@ pub fn is_goes_on(kind: &TokenKind) -> bool
     }
 }
 
+#[inline(always)]
 pub fn is_stop(kind: &TokenKind) -> bool
     ensures { result ≡ spec.is_stop kind.now }
 {
@@ -88,6 +95,7 @@ pub fn is_stop(kind: &TokenKind) -> bool
     }
 }
 
+#[inline(always)]
 pub fn is_stmt_end(kind: &TokenKind) -> bool
     ensures { result ≡ spec.is_stmt_end kind.now }
 {
@@ -99,6 +107,7 @@ pub fn is_stmt_end(kind: &TokenKind) -> bool
     }
 }
 
+#[inline(always)]
 pub fn is_field_end(kind: &TokenKind) -> bool
     ensures { result ≡ spec.is_field_end kind.now }
 {
@@ -110,6 +119,7 @@ pub fn is_field_end(kind: &TokenKind) -> bool
     }
 }
 
+#[inline(always)]
 pub fn is_embed_end(kind: &TokenKind) -> bool
     ensures { result ≡ spec.is_embed_end kind.now }
 {
@@ -122,6 +132,7 @@ pub fn is_embed_end(kind: &TokenKind) -> bool
     }
 }
 
+#[inline(always)]
 pub fn is_spec_end(kind: &TokenKind) -> bool
     ensures { result ≡ spec.is_spec_end kind.now }
 {
@@ -133,6 +144,7 @@ pub fn is_spec_end(kind: &TokenKind) -> bool
     }
 }
 
+#[inline(always)]
 pub fn is_bound_end(kind: &TokenKind) -> bool
     ensures { result ≡ spec.is_bound_end kind.now }
 {
@@ -142,6 +154,7 @@ pub fn is_bound_end(kind: &TokenKind) -> bool
     }
 }
 
+#[inline(always)]
 pub fn is_list_end(kind: &TokenKind) -> bool
     ensures { result ≡ spec.is_list_end kind.now }
 {
@@ -153,6 +166,7 @@ pub fn is_list_end(kind: &TokenKind) -> bool
     }
 }
 
+#[inline(always)]
 pub fn is_composite_start(kind: &TokenKind) -> bool
     ensures { result ≡ spec.is_composite_start kind.now }
 {
@@ -164,6 +178,7 @@ pub fn is_composite_start(kind: &TokenKind) -> bool
     }
 }
 
+#[inline(always)]
 pub fn is_other_start(kind: &TokenKind) -> bool
     ensures { result ≡ spec.is_other_start kind.now }
 {
@@ -173,6 +188,7 @@ pub fn is_other_start(kind: &TokenKind) -> bool
     }
 }
 
+#[inline(always)]
 pub fn is_decl_start(kind: &TokenKind) -> bool
     ensures { result ≡ spec.is_decl_start kind.now }
 {
@@ -185,6 +201,7 @@ pub fn is_decl_start(kind: &TokenKind) -> bool
 }
 
 /// The precedence of a binary operator, 0 for the tightest.
+#[inline(always)]
 pub fn binary_level(kind: &TokenKind) -> Option<u8>
     ensures { result ≡ spec.binary_level kind.now }
 {
@@ -213,6 +230,7 @@ pub fn binary_level(kind: &TokenKind) -> Option<u8>
 }
 
 /// Whether the token is a binary operator of this precedence.
+#[inline(always)]
 pub fn is_binary(level: u8, kind: &TokenKind) -> bool
     ensures { result ≡ spec.is_binary level kind.now }
 {

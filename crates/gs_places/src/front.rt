@@ -12,6 +12,7 @@ use crate::rest::Rest;
 use gs_syntax::token::{Keyword, Operator, Token, TokenKind};
 
 /// The operator's number.
+#[inline(always)]
 fn mark_number(o: Operator) -> u8
     ensures { result ≡ spec.mark_number o }
 {
@@ -67,6 +68,7 @@ fn mark_number(o: Operator) -> u8
 }
 
 /// The keyword's number.
+#[inline(always)]
 fn word_number(k: Keyword) -> u8
     ensures { result ≡ spec.word_number k }
 {
@@ -100,6 +102,7 @@ fn word_number(k: Keyword) -> u8
 }
 
 /// Whether the token is this operator.
+#[inline(always)]
 pub fn is_mark(o: Operator, kind: &TokenKind) -> bool
     ensures { result ≡ spec.is_mark o kind.now }
 {
@@ -110,6 +113,7 @@ pub fn is_mark(o: Operator, kind: &TokenKind) -> bool
 }
 
 /// Whether the token is this keyword.
+#[inline(always)]
 pub fn is_word(k: Keyword, kind: &TokenKind) -> bool
     ensures { result ≡ spec.is_word k kind.now }
 {
@@ -120,6 +124,7 @@ pub fn is_word(k: Keyword, kind: &TokenKind) -> bool
 }
 
 /// Whether the token is an identifier.
+#[inline(always)]
 pub fn is_name(kind: &TokenKind) -> bool
     ensures { result ≡ spec.is_name kind.now }
 {
@@ -130,6 +135,7 @@ pub fn is_name(kind: &TokenKind) -> bool
 }
 
 /// Whether the token is a string literal.
+#[inline(always)]
 pub fn is_text(kind: &TokenKind) -> bool
     ensures { result ≡ spec.is_text kind.now }
 {
@@ -140,6 +146,7 @@ pub fn is_text(kind: &TokenKind) -> bool
 }
 
 /// What is left behind this operator, where it is the token.
+#[inline(always)]
 #[tactic(auto, unfolding(gs_grammar::specs::Front::mark_at))]
 pub fn first_mark<'a>(o: Operator, x: &Token, s: Rest<'a>) -> Option<Rest<'a>>
     ensures { Leads result (spec.mark_at o (x.now ∷ s.entry.tokens.now)) }
@@ -148,6 +155,7 @@ pub fn first_mark<'a>(o: Operator, x: &Token, s: Rest<'a>) -> Option<Rest<'a>>
 }
 
 /// What is left behind this operator.
+#[inline(always)]
 #[tactic(auto, unfolding(gs_grammar::specs::Front::mark_at))]
 pub fn mark<'a>(o: Operator, s: Rest<'a>) -> Option<Rest<'a>>
     ensures { Leads result (spec.mark_at o s.entry.tokens.now) }
@@ -157,6 +165,7 @@ pub fn mark<'a>(o: Operator, s: Rest<'a>) -> Option<Rest<'a>>
 }
 
 /// What is left behind this keyword, where it is the token.
+#[inline(always)]
 #[tactic(auto, unfolding(gs_grammar::specs::Front::word_at))]
 pub fn first_word<'a>(k: Keyword, x: &Token, s: Rest<'a>) -> Option<Rest<'a>>
     ensures { Leads result (spec.word_at k (x.now ∷ s.entry.tokens.now)) }
@@ -165,6 +174,7 @@ pub fn first_word<'a>(k: Keyword, x: &Token, s: Rest<'a>) -> Option<Rest<'a>>
 }
 
 /// What is left behind this keyword.
+#[inline(always)]
 #[tactic(auto, unfolding(gs_grammar::specs::Front::word_at))]
 pub fn word<'a>(k: Keyword, s: Rest<'a>) -> Option<Rest<'a>>
     ensures { Leads result (spec.word_at k s.entry.tokens.now) }
@@ -174,6 +184,7 @@ pub fn word<'a>(k: Keyword, s: Rest<'a>) -> Option<Rest<'a>>
 }
 
 /// What is left behind an identifier, where it is the token.
+#[inline(always)]
 #[tactic(auto, unfolding(gs_grammar::specs::Front::name_at))]
 pub fn first_name<'a>(x: &Token, s: Rest<'a>) -> Option<Rest<'a>>
     ensures { Leads result (spec.name_at (x.now ∷ s.entry.tokens.now)) }
@@ -182,6 +193,7 @@ pub fn first_name<'a>(x: &Token, s: Rest<'a>) -> Option<Rest<'a>>
 }
 
 /// What is left behind an identifier.
+#[inline(always)]
 #[tactic(auto, unfolding(gs_grammar::specs::Front::name_at))]
 pub fn name<'a>(s: Rest<'a>) -> Option<Rest<'a>>
     ensures { Leads result (spec.name_at s.entry.tokens.now) }
@@ -191,6 +203,7 @@ pub fn name<'a>(s: Rest<'a>) -> Option<Rest<'a>>
 }
 
 /// What is left behind a string literal, where it is the token.
+#[inline(always)]
 #[tactic(auto, unfolding(gs_grammar::specs::Front::text_at))]
 pub fn first_text<'a>(x: &Token, s: Rest<'a>) -> Option<Rest<'a>>
     ensures { Leads result (spec.text_at (x.now ∷ s.entry.tokens.now)) }
@@ -199,6 +212,7 @@ pub fn first_text<'a>(x: &Token, s: Rest<'a>) -> Option<Rest<'a>>
 }
 
 /// What is left behind a string literal.
+#[inline(always)]
 #[tactic(auto, unfolding(gs_grammar::specs::Front::text_at))]
 pub fn text<'a>(s: Rest<'a>) -> Option<Rest<'a>>
     ensures { Leads result (spec.text_at s.entry.tokens.now) }
@@ -208,6 +222,7 @@ pub fn text<'a>(s: Rest<'a>) -> Option<Rest<'a>>
 }
 
 /// What is left behind a semicolon, where it is the token.
+#[inline(always)]
 #[tactic(auto, unfolding(gs_grammar::specs::Front::front_at))]
 pub fn first_semi<'a>(x: &Token, s: Rest<'a>) -> Option<Rest<'a>>
     ensures { Leads result (spec.front_at spec.is_semi (x.now ∷ s.entry.tokens.now)) }
@@ -216,6 +231,7 @@ pub fn first_semi<'a>(x: &Token, s: Rest<'a>) -> Option<Rest<'a>>
 }
 
 /// What is left behind a semicolon.
+#[inline(always)]
 #[tactic(auto, unfolding(gs_grammar::specs::Front::front_at))]
 pub fn semi<'a>(s: Rest<'a>) -> Option<Rest<'a>>
     ensures { Leads result (spec.front_at spec.is_semi s.entry.tokens.now) }
@@ -225,6 +241,7 @@ pub fn semi<'a>(s: Rest<'a>) -> Option<Rest<'a>>
 }
 
 /// What is left behind what goes on with a simple statement, where it is the token.
+#[inline(always)]
 #[tactic(auto, unfolding(gs_grammar::specs::Front::front_at))]
 pub fn first_goes_on<'a>(x: &Token, s: Rest<'a>) -> Option<Rest<'a>>
     ensures { Leads result (spec.front_at spec.is_goes_on (x.now ∷ s.entry.tokens.now)) }
@@ -233,6 +250,7 @@ pub fn first_goes_on<'a>(x: &Token, s: Rest<'a>) -> Option<Rest<'a>>
 }
 
 /// What is left behind what goes on with a simple statement.
+#[inline(always)]
 #[tactic(auto, unfolding(gs_grammar::specs::Front::front_at))]
 pub fn goes_on<'a>(s: Rest<'a>) -> Option<Rest<'a>>
     ensures { Leads result (spec.front_at spec.is_goes_on s.entry.tokens.now) }
@@ -242,6 +260,7 @@ pub fn goes_on<'a>(s: Rest<'a>) -> Option<Rest<'a>>
 }
 
 /// What is left behind a comma or a closing parenthesis, where it is the token.
+#[inline(always)]
 #[tactic(auto, unfolding(gs_grammar::specs::Front::front_at))]
 pub fn first_stop<'a>(x: &Token, s: Rest<'a>) -> Option<Rest<'a>>
     ensures { Leads result (spec.front_at spec.is_stop (x.now ∷ s.entry.tokens.now)) }
@@ -250,6 +269,7 @@ pub fn first_stop<'a>(x: &Token, s: Rest<'a>) -> Option<Rest<'a>>
 }
 
 /// What is left behind a comma or a closing parenthesis.
+#[inline(always)]
 #[tactic(auto, unfolding(gs_grammar::specs::Front::front_at))]
 pub fn stop<'a>(s: Rest<'a>) -> Option<Rest<'a>>
     ensures { Leads result (spec.front_at spec.is_stop s.entry.tokens.now) }
@@ -259,6 +279,7 @@ pub fn stop<'a>(s: Rest<'a>) -> Option<Rest<'a>>
 }
 
 /// What is left behind what ends a statement, where it is the token.
+#[inline(always)]
 #[tactic(auto, unfolding(gs_grammar::specs::Front::front_at))]
 pub fn first_stmt_end<'a>(x: &Token, s: Rest<'a>) -> Option<Rest<'a>>
     ensures { Leads result (spec.front_at spec.is_stmt_end (x.now ∷ s.entry.tokens.now)) }
@@ -267,6 +288,7 @@ pub fn first_stmt_end<'a>(x: &Token, s: Rest<'a>) -> Option<Rest<'a>>
 }
 
 /// What is left behind what ends a statement.
+#[inline(always)]
 #[tactic(auto, unfolding(gs_grammar::specs::Front::front_at))]
 pub fn stmt_end<'a>(s: Rest<'a>) -> Option<Rest<'a>>
     ensures { Leads result (spec.front_at spec.is_stmt_end s.entry.tokens.now) }
@@ -276,6 +298,7 @@ pub fn stmt_end<'a>(s: Rest<'a>) -> Option<Rest<'a>>
 }
 
 /// What is left behind what follows the name of an embedded field, where it is the token.
+#[inline(always)]
 #[tactic(auto, unfolding(gs_grammar::specs::Front::front_at))]
 pub fn first_embed_end<'a>(x: &Token, s: Rest<'a>) -> Option<Rest<'a>>
     ensures { Leads result (spec.front_at spec.is_embed_end (x.now ∷ s.entry.tokens.now)) }
@@ -284,6 +307,7 @@ pub fn first_embed_end<'a>(x: &Token, s: Rest<'a>) -> Option<Rest<'a>>
 }
 
 /// What is left behind what follows the name of an embedded field.
+#[inline(always)]
 #[tactic(auto, unfolding(gs_grammar::specs::Front::front_at))]
 pub fn embed_end<'a>(s: Rest<'a>) -> Option<Rest<'a>>
     ensures { Leads result (spec.front_at spec.is_embed_end s.entry.tokens.now) }
@@ -293,6 +317,7 @@ pub fn embed_end<'a>(s: Rest<'a>) -> Option<Rest<'a>>
 }
 
 /// What is left behind what ends a spec, where it is the token.
+#[inline(always)]
 #[tactic(auto, unfolding(gs_grammar::specs::Front::front_at))]
 pub fn first_spec_end<'a>(x: &Token, s: Rest<'a>) -> Option<Rest<'a>>
     ensures { Leads result (spec.front_at spec.is_spec_end (x.now ∷ s.entry.tokens.now)) }
@@ -301,6 +326,7 @@ pub fn first_spec_end<'a>(x: &Token, s: Rest<'a>) -> Option<Rest<'a>>
 }
 
 /// What is left behind what ends a spec.
+#[inline(always)]
 #[tactic(auto, unfolding(gs_grammar::specs::Front::front_at))]
 pub fn spec_end<'a>(s: Rest<'a>) -> Option<Rest<'a>>
     ensures { Leads result (spec.front_at spec.is_spec_end s.entry.tokens.now) }
@@ -310,6 +336,7 @@ pub fn spec_end<'a>(s: Rest<'a>) -> Option<Rest<'a>>
 }
 
 /// What is left behind an increment or a decrement, where it is the token.
+#[inline(always)]
 #[tactic(auto, unfolding(gs_grammar::specs::Front::front_at))]
 pub fn first_step<'a>(x: &Token, s: Rest<'a>) -> Option<Rest<'a>>
     ensures { Leads result (spec.front_at spec.is_step (x.now ∷ s.entry.tokens.now)) }
@@ -318,6 +345,7 @@ pub fn first_step<'a>(x: &Token, s: Rest<'a>) -> Option<Rest<'a>>
 }
 
 /// What is left behind an increment or a decrement.
+#[inline(always)]
 #[tactic(auto, unfolding(gs_grammar::specs::Front::front_at))]
 pub fn step<'a>(s: Rest<'a>) -> Option<Rest<'a>>
     ensures { Leads result (spec.front_at spec.is_step s.entry.tokens.now) }
@@ -327,6 +355,7 @@ pub fn step<'a>(s: Rest<'a>) -> Option<Rest<'a>>
 }
 
 /// What is left behind the operator of an assignment, where it is the token.
+#[inline(always)]
 #[tactic(auto, unfolding(gs_grammar::specs::Front::front_at))]
 pub fn first_update<'a>(x: &Token, s: Rest<'a>) -> Option<Rest<'a>>
     ensures { Leads result (spec.front_at spec.is_update (x.now ∷ s.entry.tokens.now)) }
@@ -335,6 +364,7 @@ pub fn first_update<'a>(x: &Token, s: Rest<'a>) -> Option<Rest<'a>>
 }
 
 /// What is left behind the operator of an assignment.
+#[inline(always)]
 #[tactic(auto, unfolding(gs_grammar::specs::Front::front_at))]
 pub fn update<'a>(s: Rest<'a>) -> Option<Rest<'a>>
     ensures { Leads result (spec.front_at spec.is_update s.entry.tokens.now) }
@@ -344,6 +374,7 @@ pub fn update<'a>(s: Rest<'a>) -> Option<Rest<'a>>
 }
 
 /// The closing bracket, with the comma that may stand before it: what is left behind that comma.
+#[inline(always)]
 #[tactic(auto, unfolding(gs_grammar::specs::Front::trail_at))]
 pub fn trail<'a>(o: Operator, s: Rest<'a>) -> Option<Rest<'a>>
     ensures { Sees (λ r. r.tokens.now) result (spec.trail_at o s.entry.tokens.now) }
@@ -357,6 +388,7 @@ pub fn trail<'a>(o: Operator, s: Rest<'a>) -> Option<Rest<'a>>
 }
 
 /// What is left behind a dot and an identifier.
+#[inline(always)]
 #[tactic(auto, unfolding(gs_grammar::specs::Front::selector_at))]
 pub fn selector<'a>(s: Rest<'a>) -> Option<Rest<'a>>
     ensures { Leads result (spec.selector_at s.entry.tokens.now) }
@@ -365,6 +397,7 @@ pub fn selector<'a>(s: Rest<'a>) -> Option<Rest<'a>>
 }
 
 /// What is left behind an identifier and a colon, where the token is that identifier.
+#[inline(always)]
 #[tactic(auto, unfolding(gs_grammar::specs::Front::label_at))]
 pub fn first_label<'a>(x: &Token, s: Rest<'a>) -> Option<Rest<'a>>
     ensures { Leads result (spec.label_at (x.now ∷ s.entry.tokens.now)) }
@@ -373,6 +406,7 @@ pub fn first_label<'a>(x: &Token, s: Rest<'a>) -> Option<Rest<'a>>
 }
 
 /// What is left behind an identifier and `:=`, where the token is that identifier.
+#[inline(always)]
 #[tactic(auto, unfolding(gs_grammar::specs::Front::defined_at))]
 pub fn first_defined<'a>(x: &Token, s: Rest<'a>) -> Option<Rest<'a>>
     ensures { Leads result (spec.defined_at (x.now ∷ s.entry.tokens.now)) }

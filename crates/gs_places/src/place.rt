@@ -1,10 +1,11 @@
 //! What the table has for a place.
 
 /// Where a form that begins at the place ends, by how many tokens are left, and how deep it nests, counted up to 201.
+/// The depth is as wide as the other, since a narrower one would leave a gap, and gaps are slow to copy.
 #[derive(Clone, Copy, Debug)]
 pub struct Cell {
     pub left: u32,
-    pub depth: u8,
+    pub depth: u32,
 }
 
 /// The types that begin at a place, and their parts. `dots`: the last parameter may be variadic.

@@ -18,12 +18,13 @@ pub struct Rest<'a> {
 /// Where a form ends, and how deep it nests, counted up to 201.
 #[derive(Clone, Copy)]
 pub struct Spot<'a> {
-    pub depth: u8,
+    pub depth: u32,
     pub rest: Rest<'a>,
 }
 
 impl<'a> Rest<'a> {
     /// The first token, and those behind it.
+    #[inline(always)]
     pub fn next(self) -> Option<(&'a Token, Rest<'a>)>
         ensures value { Sees (λ p. (p.0.now, p.1.tokens.now)) result (first_of self.entry.tokens.now) }
         ensures shorter { IfSome result (λ p. length p.1.tokens.now < length self.entry.tokens.now) }
@@ -39,6 +40,7 @@ impl<'a> Rest<'a> {
     }
 
     /// What the table has for the place.
+    #[inline(always)]
     pub fn here(self) -> &'a Place
         ensures { result.now ≡ place self.entry.tokens.now }
     {
@@ -49,6 +51,7 @@ impl<'a> Rest<'a> {
     }
 
     /// The place where a cell of the table ends.
+    #[inline(always)]
     pub fn jump(self, cell: Option<Cell>) -> Option<Spot<'a>>
         ensures { (o : Option (ℕ × List AToken)) → cell ≡ cell_of o → IsWithin self.entry.tokens.now o → Sees (λ f. (f.depth, f.rest.tokens.now)) result o }
     {
@@ -69,6 +72,7 @@ impl<'a> Rest<'a> {
 }
 
 /// What the table keeps of where a form ends.
+#[inline(always)]
 pub fn kept(found: Option<Spot<'_>>) -> Option<Cell>
     ensures { (o : Option (ℕ × List AToken)) → Sees (λ f. (f.depth, f.rest.tokens.now)) found.entry o → result ≡ cell_of o }
 {
@@ -80,6 +84,7 @@ pub fn kept(found: Option<Spot<'_>>) -> Option<Cell>
 }
 
 /// What the table keeps of a form without tokens, at the token before these.
+#[inline(always)]
 pub fn stay(s: Rest<'_>) -> Cell
     requires { length s.tokens.now + 1 < 2 ^ 32 }
     ensures left { result.left ≡ suc (length s.entry.tokens.now) }
@@ -92,14 +97,16 @@ pub fn stay(s: Rest<'_>) -> Cell
 }
 
 /// One level of nesting more.
-pub fn deeper(depth: u8) -> u8
+#[inline(always)]
+pub fn deeper(depth: u32) -> u32
     ensures { (d : ℕ) → depth ≡ cap d → result ≡ cap (suc d) }
 {
     if depth < 201 { depth + 1 } else { 201 }
 }
 
 /// The deeper of two.
-pub fn deepest(one: u8, two: u8) -> u8
+#[inline(always)]
+pub fn deepest(one: u32, two: u32) -> u32
     ensures { (c d : ℕ) → one ≡ cap c → two ≡ cap d → result ≡ cap (max c d) }
 {
     one.max(two)

@@ -1,3 +1,4 @@
+pub mod Absences
 pub mod Defines
 pub mod Filling
 pub mod Receivers

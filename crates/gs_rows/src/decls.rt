@@ -21,6 +21,7 @@ use gs_rows_expr::types::{params, read_last_named, read_last_type, signature};
 use gs_syntax::token::{Keyword, Operator, Token};
 
 /// The form `implicit` of the const spec.
+#[inline(always)]
 #[tactic(auto, unfolding(gs_grammar::specs::Reference::read_implicit))]
 pub fn read_implicit<'a>(
     initial: bool,
@@ -43,6 +44,7 @@ pub fn read_implicit<'a>(
 }
 
 /// The form `untyped` of the const spec.
+#[inline(always)]
 #[tactic(auto, unfolding(gs_grammar::specs::Reference::read_untyped))]
 pub fn read_untyped<'a>(
     initial: bool,
@@ -63,6 +65,7 @@ pub fn read_untyped<'a>(
 }
 
 /// The form `typed_const` of the const spec.
+#[inline(always)]
 #[tactic(auto, unfolding(gs_grammar::specs::Reference::read_typed_const))]
 pub fn read_typed_const<'a>(
     initial: bool,
@@ -90,6 +93,7 @@ pub fn read_typed_const<'a>(
 }
 
 /// The const spec that begins with the token.
+#[inline(always)]
 #[tactic(auto, unfolding(gs_grammar::specs::Reference::const_spec_step))]
 pub fn const_spec_by<'a>(
     initial: bool,
@@ -112,6 +116,7 @@ pub fn const_spec_by<'a>(
 }
 
 /// The const spec of the place.
+#[inline(always)]
 #[tactic(auto, using(gs_places::proofs::Laws::at_const_spec, gs_places::proofs::Laws::end_const_spec, gs_places::proofs::Laws::at_idents))]
 pub fn const_spec<'a>(initial: bool, s: Rest<'a>) -> Option<Spot<'a>>
     ensures { Spots result ((stands s.entry.tokens.now).const_spec initial) }
@@ -122,6 +127,7 @@ pub fn const_spec<'a>(initial: bool, s: Rest<'a>) -> Option<Spot<'a>>
 }
 
 /// The form `last_const` of the const specs.
+#[inline(always)]
 #[tactic(auto, unfolding(gs_grammar::specs::Reference::read_last_const))]
 pub fn read_last_const<'a>(
     initial: bool,
@@ -141,6 +147,7 @@ pub fn read_last_const<'a>(
 }
 
 /// The form `more_consts` of the const specs.
+#[inline(always)]
 #[tactic(auto, unfolding(gs_grammar::specs::Reference::read_more_consts))]
 pub fn read_more_consts<'a>(
     initial: bool,
@@ -161,6 +168,7 @@ pub fn read_more_consts<'a>(
 }
 
 /// The const specs that begin with the token.
+#[inline(always)]
 #[tactic(auto, unfolding(gs_grammar::specs::Reference::const_specs_step, gs_grammar::specs::Reference::read_no_consts, gs_grammar::specs::Front::mark_at))]
 pub fn const_specs_by<'a>(
     initial: bool,
@@ -188,6 +196,7 @@ pub fn const_specs_by<'a>(
 }
 
 /// The const specs of the place.
+#[inline(always)]
 #[tactic(auto, using(gs_places::proofs::Laws::at_const_specs, gs_places::proofs::Laws::end_const_specs, gs_places::proofs::Laws::at_idents), unfolding(gs_grammar::specs::Reference::const_specs_step, gs_grammar::specs::Reference::read_no_consts, gs_grammar::specs::Front::mark_at))]
 pub fn const_group<'a>(s: Rest<'a>) -> Option<Spot<'a>>
     ensures { Spots result ((stands s.entry.tokens.now).const_specs true) }
@@ -210,6 +219,7 @@ pub fn const_group<'a>(s: Rest<'a>) -> Option<Spot<'a>>
 }
 
 /// The form `definition` of the type spec.
+#[inline(always)]
 #[tactic(auto, unfolding(gs_grammar::specs::Reference::read_definition))]
 pub fn read_definition<'a>(x: &Token, s: Rest<'a>) -> Option<Spot<'a>>
     ensures { Spots result (reference.read_definition s.entry.tokens.now stands x.now) }
@@ -222,6 +232,7 @@ pub fn read_definition<'a>(x: &Token, s: Rest<'a>) -> Option<Spot<'a>>
 }
 
 /// The form `alias` of the type spec.
+#[inline(always)]
 #[tactic(auto, unfolding(gs_grammar::specs::Reference::read_alias))]
 pub fn read_alias<'a>(x: &Token, s: Rest<'a>) -> Option<Spot<'a>>
     ensures { Spots result (reference.read_alias s.entry.tokens.now stands x.now) }
@@ -232,6 +243,7 @@ pub fn read_alias<'a>(x: &Token, s: Rest<'a>) -> Option<Spot<'a>>
 }
 
 /// The type spec that begins with the token.
+#[inline(always)]
 #[tactic(auto, unfolding(gs_grammar::specs::Reference::type_spec_step))]
 pub fn type_spec_by<'a>(x: &Token, s: Rest<'a>) -> Option<Spot<'a>>
     ensures { Spots result (reference.type_spec_step s.entry.tokens.now stands x.now) }
@@ -244,6 +256,7 @@ pub fn type_spec_by<'a>(x: &Token, s: Rest<'a>) -> Option<Spot<'a>>
 }
 
 /// The type spec of the place.
+#[inline(always)]
 #[tactic(auto, using(gs_places::proofs::Laws::at_type_spec, gs_places::proofs::Laws::end_type_spec))]
 pub fn type_spec<'a>(s: Rest<'a>) -> Option<Spot<'a>>
     ensures { Spots result ((stands s.entry.tokens.now).type_spec) }
@@ -253,6 +266,7 @@ pub fn type_spec<'a>(s: Rest<'a>) -> Option<Spot<'a>>
 }
 
 /// The form `last_type_spec` of the type specs.
+#[inline(always)]
 #[tactic(auto, unfolding(gs_grammar::specs::Reference::read_last_type_spec))]
 pub fn read_last_type_spec<'a>(found: Option<Spot<'a>>, x: &Token, s: Rest<'a>) -> Option<Spot<'a>>
     requires found { Spots found (reference.type_spec_step s.tokens.now stands x.now) }
@@ -267,6 +281,7 @@ pub fn read_last_type_spec<'a>(found: Option<Spot<'a>>, x: &Token, s: Rest<'a>) 
 }
 
 /// The form `more_type_specs` of the type specs.
+#[inline(always)]
 #[tactic(auto, unfolding(gs_grammar::specs::Reference::read_more_type_specs))]
 pub fn read_more_type_specs<'a>(found: Option<Spot<'a>>, x: &Token, s: Rest<'a>) -> Option<Spot<'a>>
     requires found { Spots found (reference.type_spec_step s.tokens.now stands x.now) }
@@ -282,6 +297,7 @@ pub fn read_more_type_specs<'a>(found: Option<Spot<'a>>, x: &Token, s: Rest<'a>)
 }
 
 /// The type specs that begin with the token.
+#[inline(always)]
 #[tactic(auto, unfolding(gs_grammar::specs::Reference::type_specs_step, gs_grammar::specs::Reference::read_no_type_specs, gs_grammar::specs::Front::mark_at))]
 pub fn type_specs_by<'a>(found: Option<Spot<'a>>, x: &Token, s: Rest<'a>) -> Option<Cell>
     requires few { length s.tokens.now + 1 < 2 ^ 32 }
@@ -304,6 +320,7 @@ pub fn type_specs_by<'a>(found: Option<Spot<'a>>, x: &Token, s: Rest<'a>) -> Opt
 }
 
 /// The form `var_values` of the var spec.
+#[inline(always)]
 #[tactic(auto, unfolding(gs_grammar::specs::Reference::read_var_values))]
 pub fn read_var_values<'a>(names: Option<Spot<'a>>, x: &Token, s: Rest<'a>) -> Option<Spot<'a>>
     requires names { Spots names (steps.idents_step s.tokens.now stands x.now) }
@@ -319,6 +336,7 @@ pub fn read_var_values<'a>(names: Option<Spot<'a>>, x: &Token, s: Rest<'a>) -> O
 }
 
 /// The form `typed_var` of the var spec.
+#[inline(always)]
 #[tactic(auto, unfolding(gs_grammar::specs::Reference::read_typed_var))]
 pub fn read_typed_var<'a>(names: Option<Spot<'a>>, x: &Token, s: Rest<'a>) -> Option<Spot<'a>>
     requires names { Spots names (steps.idents_step s.tokens.now stands x.now) }
@@ -339,6 +357,7 @@ pub fn read_typed_var<'a>(names: Option<Spot<'a>>, x: &Token, s: Rest<'a>) -> Op
 }
 
 /// The form `typed_values` of the var spec.
+#[inline(always)]
 #[tactic(auto, unfolding(gs_grammar::specs::Reference::read_typed_values))]
 pub fn read_typed_values<'a>(names: Option<Spot<'a>>, x: &Token, s: Rest<'a>) -> Option<Spot<'a>>
     requires names { Spots names (steps.idents_step s.tokens.now stands x.now) }
@@ -358,6 +377,7 @@ pub fn read_typed_values<'a>(names: Option<Spot<'a>>, x: &Token, s: Rest<'a>) ->
 }
 
 /// The var spec that begins with the token.
+#[inline(always)]
 #[tactic(auto, unfolding(gs_grammar::specs::Reference::var_spec_step))]
 pub fn var_spec_by<'a>(names: Option<Spot<'a>>, x: &Token, s: Rest<'a>) -> Option<Spot<'a>>
     requires names { Spots names (steps.idents_step s.tokens.now stands x.now) }
@@ -375,6 +395,7 @@ pub fn var_spec_by<'a>(names: Option<Spot<'a>>, x: &Token, s: Rest<'a>) -> Optio
 }
 
 /// The var spec of the place.
+#[inline(always)]
 #[tactic(auto, using(gs_places::proofs::Laws::at_var_spec, gs_places::proofs::Laws::end_var_spec, gs_places::proofs::Laws::at_idents))]
 pub fn var_spec<'a>(s: Rest<'a>) -> Option<Spot<'a>>
     ensures { Spots result ((stands s.entry.tokens.now).var_spec) }
@@ -385,6 +406,7 @@ pub fn var_spec<'a>(s: Rest<'a>) -> Option<Spot<'a>>
 }
 
 /// The form `last_var` of the var specs.
+#[inline(always)]
 #[tactic(auto, unfolding(gs_grammar::specs::Reference::read_last_var))]
 pub fn read_last_var<'a>(found: Option<Spot<'a>>, x: &Token, s: Rest<'a>) -> Option<Spot<'a>>
     requires found { Spots found (reference.var_spec_step s.tokens.now stands x.now) }
@@ -399,6 +421,7 @@ pub fn read_last_var<'a>(found: Option<Spot<'a>>, x: &Token, s: Rest<'a>) -> Opt
 }
 
 /// The form `more_vars` of the var specs.
+#[inline(always)]
 #[tactic(auto, unfolding(gs_grammar::specs::Reference::read_more_vars))]
 pub fn read_more_vars<'a>(found: Option<Spot<'a>>, x: &Token, s: Rest<'a>) -> Option<Spot<'a>>
     requires found { Spots found (reference.var_spec_step s.tokens.now stands x.now) }
@@ -414,6 +437,7 @@ pub fn read_more_vars<'a>(found: Option<Spot<'a>>, x: &Token, s: Rest<'a>) -> Op
 }
 
 /// The var specs that begin with the token.
+#[inline(always)]
 #[tactic(auto, unfolding(gs_grammar::specs::Reference::var_specs_step, gs_grammar::specs::Reference::read_no_vars, gs_grammar::specs::Front::mark_at))]
 pub fn var_specs_by<'a>(found: Option<Spot<'a>>, x: &Token, s: Rest<'a>) -> Option<Cell>
     requires few { length s.tokens.now + 1 < 2 ^ 32 }
@@ -436,6 +460,7 @@ pub fn var_specs_by<'a>(found: Option<Spot<'a>>, x: &Token, s: Rest<'a>) -> Opti
 }
 
 /// The form `const_decl` of the declaration.
+#[inline(always)]
 #[tactic(auto, unfolding(gs_grammar::specs::Reference::read_const_decl))]
 pub fn read_const_decl<'a>(x: &Token, s: Rest<'a>) -> Option<Spot<'a>>
     ensures { Spots result (reference.read_const_decl s.entry.tokens.now stands x.now) }
@@ -448,6 +473,7 @@ pub fn read_const_decl<'a>(x: &Token, s: Rest<'a>) -> Option<Spot<'a>>
 }
 
 /// The form `const_group` of the declaration.
+#[inline(always)]
 #[tactic(auto, unfolding(gs_grammar::specs::Reference::read_const_group))]
 pub fn read_const_group<'a>(x: &Token, s: Rest<'a>) -> Option<Spot<'a>>
     ensures { Spots result (reference.read_const_group s.entry.tokens.now stands x.now) }
@@ -463,6 +489,7 @@ pub fn read_const_group<'a>(x: &Token, s: Rest<'a>) -> Option<Spot<'a>>
 }
 
 /// The form `type_decl` of the declaration.
+#[inline(always)]
 #[tactic(auto, unfolding(gs_grammar::specs::Reference::read_type_decl))]
 pub fn read_type_decl<'a>(x: &Token, s: Rest<'a>) -> Option<Spot<'a>>
     ensures { Spots result (reference.read_type_decl s.entry.tokens.now stands x.now) }
@@ -475,6 +502,7 @@ pub fn read_type_decl<'a>(x: &Token, s: Rest<'a>) -> Option<Spot<'a>>
 }
 
 /// The form `type_group` of the declaration.
+#[inline(always)]
 #[tactic(auto, unfolding(gs_grammar::specs::Reference::read_type_group))]
 pub fn read_type_group<'a>(x: &Token, s: Rest<'a>) -> Option<Spot<'a>>
     ensures { Spots result (reference.read_type_group s.entry.tokens.now stands x.now) }
@@ -490,6 +518,7 @@ pub fn read_type_group<'a>(x: &Token, s: Rest<'a>) -> Option<Spot<'a>>
 }
 
 /// The form `var_decl` of the declaration.
+#[inline(always)]
 #[tactic(auto, unfolding(gs_grammar::specs::Reference::read_var_decl))]
 pub fn read_var_decl<'a>(x: &Token, s: Rest<'a>) -> Option<Spot<'a>>
     ensures { Spots result (reference.read_var_decl s.entry.tokens.now stands x.now) }
@@ -502,6 +531,7 @@ pub fn read_var_decl<'a>(x: &Token, s: Rest<'a>) -> Option<Spot<'a>>
 }
 
 /// The form `var_group` of the declaration.
+#[inline(always)]
 #[tactic(auto, unfolding(gs_grammar::specs::Reference::read_var_group))]
 pub fn read_var_group<'a>(x: &Token, s: Rest<'a>) -> Option<Spot<'a>>
     ensures { Spots result (reference.read_var_group s.entry.tokens.now stands x.now) }
@@ -517,6 +547,7 @@ pub fn read_var_group<'a>(x: &Token, s: Rest<'a>) -> Option<Spot<'a>>
 }
 
 /// The declaration that begins with the token.
+#[inline(always)]
 #[tactic(auto, unfolding(gs_grammar::specs::Reference::decl_step))]
 pub fn decl_by<'a>(x: &Token, s: Rest<'a>) -> Option<Spot<'a>>
     ensures { Spots result (reference.decl_step s.entry.tokens.now stands x.now) }
@@ -545,6 +576,7 @@ pub fn decl_by<'a>(x: &Token, s: Rest<'a>) -> Option<Spot<'a>>
 }
 
 /// The form `plain_import` of the import spec.
+#[inline(always)]
 #[tactic(auto, unfolding(gs_grammar::specs::Reference::read_plain_import))]
 pub fn read_plain_import<'a>(x: &Token, s: Rest<'a>) -> Option<Spot<'a>>
     ensures { Spots result (reference.read_plain_import s.entry.tokens.now stands x.now) }
@@ -554,6 +586,7 @@ pub fn read_plain_import<'a>(x: &Token, s: Rest<'a>) -> Option<Spot<'a>>
 }
 
 /// The form `dot_import` of the import spec.
+#[inline(always)]
 #[tactic(auto, unfolding(gs_grammar::specs::Reference::read_dot_import))]
 pub fn read_dot_import<'a>(x: &Token, s: Rest<'a>) -> Option<Spot<'a>>
     ensures { Spots result (reference.read_dot_import s.entry.tokens.now stands x.now) }
@@ -564,6 +597,7 @@ pub fn read_dot_import<'a>(x: &Token, s: Rest<'a>) -> Option<Spot<'a>>
 }
 
 /// The form `named_import` of the import spec.
+#[inline(always)]
 #[tactic(auto, unfolding(gs_grammar::specs::Reference::read_named_import))]
 pub fn read_named_import<'a>(x: &Token, s: Rest<'a>) -> Option<Spot<'a>>
     ensures { Spots result (reference.read_named_import s.entry.tokens.now stands x.now) }
@@ -574,6 +608,7 @@ pub fn read_named_import<'a>(x: &Token, s: Rest<'a>) -> Option<Spot<'a>>
 }
 
 /// The import spec that begins with the token.
+#[inline(always)]
 #[tactic(auto, unfolding(gs_grammar::specs::Reference::import_spec_step))]
 pub fn import_spec_by<'a>(x: &Token, s: Rest<'a>) -> Option<Spot<'a>>
     ensures { Spots result (reference.import_spec_step s.entry.tokens.now stands x.now) }
@@ -590,6 +625,7 @@ pub fn import_spec_by<'a>(x: &Token, s: Rest<'a>) -> Option<Spot<'a>>
 }
 
 /// The import spec of the place.
+#[inline(always)]
 #[tactic(auto, using(gs_places::proofs::Laws::at_import_spec, gs_places::proofs::Laws::end_import_spec))]
 pub fn import_spec<'a>(s: Rest<'a>) -> Option<Spot<'a>>
     ensures { Spots result ((stands s.entry.tokens.now).import_spec) }
@@ -599,6 +635,7 @@ pub fn import_spec<'a>(s: Rest<'a>) -> Option<Spot<'a>>
 }
 
 /// The form `last_import` of the import specs.
+#[inline(always)]
 #[tactic(auto, unfolding(gs_grammar::specs::Reference::read_last_import))]
 pub fn read_last_import<'a>(found: Option<Spot<'a>>, x: &Token, s: Rest<'a>) -> Option<Spot<'a>>
     requires found { Spots found (reference.import_spec_step s.tokens.now stands x.now) }
@@ -613,6 +650,7 @@ pub fn read_last_import<'a>(found: Option<Spot<'a>>, x: &Token, s: Rest<'a>) -> 
 }
 
 /// The form `more_imports` of the import specs.
+#[inline(always)]
 #[tactic(auto, unfolding(gs_grammar::specs::Reference::read_more_imports))]
 pub fn read_more_imports<'a>(found: Option<Spot<'a>>, x: &Token, s: Rest<'a>) -> Option<Spot<'a>>
     requires found { Spots found (reference.import_spec_step s.tokens.now stands x.now) }
@@ -628,6 +666,7 @@ pub fn read_more_imports<'a>(found: Option<Spot<'a>>, x: &Token, s: Rest<'a>) ->
 }
 
 /// The import specs that begin with the token.
+#[inline(always)]
 #[tactic(auto, unfolding(gs_grammar::specs::Reference::import_specs_step, gs_grammar::specs::Reference::read_no_imports, gs_grammar::specs::Front::mark_at))]
 pub fn import_specs_by<'a>(found: Option<Spot<'a>>, x: &Token, s: Rest<'a>) -> Option<Cell>
     requires few { length s.tokens.now + 1 < 2 ^ 32 }
@@ -650,6 +689,7 @@ pub fn import_specs_by<'a>(found: Option<Spot<'a>>, x: &Token, s: Rest<'a>) -> O
 }
 
 /// The form `a_body` of the body of a function.
+#[inline(always)]
 #[tactic(auto, unfolding(gs_grammar::specs::Reference::read_a_body))]
 pub fn read_a_body<'a>(found: Option<Spot<'a>>, x: &Token, s: Rest<'a>) -> Option<Spot<'a>>
     requires found { Spots found (steps.block_step s.tokens.now stands x.now) }
@@ -659,6 +699,7 @@ pub fn read_a_body<'a>(found: Option<Spot<'a>>, x: &Token, s: Rest<'a>) -> Optio
 }
 
 /// The body of a function of the place.
+#[inline(always)]
 #[tactic(auto, using(gs_places::proofs::Laws::at_body, gs_places::proofs::Laws::end_body), unfolding(gs_grammar::specs::Reference::body_step, gs_grammar::specs::Reference::read_no_body, gs_grammar::specs::Front::front_at))]
 pub fn body<'a>(s: Rest<'a>) -> Option<Spot<'a>>
     ensures { Spots result ((stands s.entry.tokens.now).body) }
@@ -677,6 +718,7 @@ pub fn body<'a>(s: Rest<'a>) -> Option<Spot<'a>>
 }
 
 /// The form `declaration` of the top-level declaration.
+#[inline(always)]
 #[tactic(auto, unfolding(gs_grammar::specs::Reference::read_declaration, gs_grammar::specs::Front::front_at))]
 pub fn read_declaration<'a>(found: Option<Spot<'a>>, x: &Token, s: Rest<'a>) -> Option<Spot<'a>>
     requires found { Spots found (reference.decl_step s.tokens.now stands x.now) }
@@ -689,6 +731,7 @@ pub fn read_declaration<'a>(found: Option<Spot<'a>>, x: &Token, s: Rest<'a>) -> 
 }
 
 /// The form `function` of the top-level declaration.
+#[inline(always)]
 #[tactic(auto, unfolding(gs_grammar::specs::Reference::read_function))]
 pub fn read_function<'a>(x: &Token, s: Rest<'a>) -> Option<Spot<'a>>
     ensures { Spots result (reference.read_function s.entry.tokens.now stands x.now) }
@@ -704,6 +747,7 @@ pub fn read_function<'a>(x: &Token, s: Rest<'a>) -> Option<Spot<'a>>
 }
 
 /// Whether the parameters of the place are a receiver: one parameter, with at most one name.
+#[inline(always)]
 pub fn is_receiver(s: Rest<'_>) -> bool
     ensures { result ≡ receives s.entry.tokens.now }
 {
@@ -714,6 +758,7 @@ pub fn is_receiver(s: Rest<'_>) -> bool
 }
 
 /// Whether one parameter stands at the place, with at most one name.
+#[inline(always)]
 fn is_only(s: Rest<'_>) -> bool
     ensures { result ≡ is_only_at s.entry.tokens.now }
 {
@@ -727,6 +772,7 @@ fn is_only(s: Rest<'_>) -> bool
 }
 
 /// The same, of the token and those behind it.
+#[inline(always)]
 #[tactic(auto, using(gs_places::proofs::Laws::at_idents, gs_places::proofs::Laws::at_type))]
 fn is_only_by<'a>(
     named: Option<Spot<'a>>,
@@ -748,6 +794,7 @@ fn is_only_by<'a>(
 }
 
 /// The form `method_decl` of the top-level declaration.
+#[inline(always)]
 #[tactic(auto, using(crate::proofs::Receivers::method_law))]
 pub fn read_method_decl<'a>(x: &Token, s: Rest<'a>) -> Option<Spot<'a>>
     ensures { Spots result (reference.read_method_decl s.entry.tokens.now stands x.now) }
@@ -768,6 +815,7 @@ pub fn read_method_decl<'a>(x: &Token, s: Rest<'a>) -> Option<Spot<'a>>
 }
 
 /// The top-level declaration that begins with the token.
+#[inline(always)]
 #[tactic(auto, unfolding(gs_grammar::specs::Reference::top_step))]
 pub fn top_by<'a>(found: Option<Spot<'a>>, x: &Token, s: Rest<'a>) -> Option<Spot<'a>>
     requires found { Spots found (reference.decl_step s.tokens.now stands x.now) }
@@ -785,6 +833,7 @@ pub fn top_by<'a>(found: Option<Spot<'a>>, x: &Token, s: Rest<'a>) -> Option<Spo
 }
 
 /// The form `top_chunk` of the chunk.
+#[inline(always)]
 #[tactic(auto, unfolding(gs_grammar::specs::Reference::read_top_chunk))]
 pub fn read_top_chunk<'a>(found: Option<Spot<'a>>, x: &Token, s: Rest<'a>) -> Option<Spot<'a>>
     requires found { Spots found (reference.top_step s.tokens.now stands x.now) }
@@ -799,6 +848,7 @@ pub fn read_top_chunk<'a>(found: Option<Spot<'a>>, x: &Token, s: Rest<'a>) -> Op
 }
 
 /// The form `package_clause` of the chunk.
+#[inline(always)]
 #[tactic(auto, unfolding(gs_grammar::specs::Reference::read_package_clause))]
 pub fn read_package_clause<'a>(x: &Token, s: Rest<'a>) -> Option<Spot<'a>>
     ensures { Spots result (reference.read_package_clause s.entry.tokens.now stands x.now) }
@@ -810,6 +860,7 @@ pub fn read_package_clause<'a>(x: &Token, s: Rest<'a>) -> Option<Spot<'a>>
 }
 
 /// The form `import_decl` of the chunk.
+#[inline(always)]
 #[tactic(auto, unfolding(gs_grammar::specs::Reference::read_import_decl))]
 pub fn read_import_decl<'a>(x: &Token, s: Rest<'a>) -> Option<Spot<'a>>
     ensures { Spots result (reference.read_import_decl s.entry.tokens.now stands x.now) }
@@ -827,6 +878,7 @@ pub fn read_import_decl<'a>(x: &Token, s: Rest<'a>) -> Option<Spot<'a>>
 }
 
 /// The form `import_group` of the chunk.
+#[inline(always)]
 #[tactic(auto, unfolding(gs_grammar::specs::Reference::read_import_group))]
 pub fn read_import_group<'a>(x: &Token, s: Rest<'a>) -> Option<Spot<'a>>
     ensures { Spots result (reference.read_import_group s.entry.tokens.now stands x.now) }
@@ -843,6 +895,7 @@ pub fn read_import_group<'a>(x: &Token, s: Rest<'a>) -> Option<Spot<'a>>
 }
 
 /// The chunk that begins with the token.
+#[inline(always)]
 #[tactic(auto, unfolding(gs_grammar::specs::Reference::chunk_step))]
 pub fn chunk_by<'a>(found: Option<Spot<'a>>, x: &Token, s: Rest<'a>) -> Option<Spot<'a>>
     requires found { Spots found (reference.top_step s.tokens.now stands x.now) }
@@ -864,6 +917,7 @@ pub fn chunk_by<'a>(found: Option<Spot<'a>>, x: &Token, s: Rest<'a>) -> Option<S
 }
 
 /// The chunk of the place.
+#[inline(always)]
 #[tactic(auto, using(gs_places::proofs::Laws::at_chunk, gs_places::proofs::Laws::end_chunk))]
 pub fn chunk<'a>(s: Rest<'a>) -> Option<Spot<'a>>
     ensures { Spots result ((stands s.entry.tokens.now).chunk) }

@@ -2,6 +2,7 @@
 #![tactic(auto)]
 
 pub mod decls;
+pub mod joints;
 pub mod parts;
 pub mod rows;
 pub mod stmts;

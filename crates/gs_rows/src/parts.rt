@@ -19,6 +19,7 @@ use gs_rows_expr::operands::{block, head_by, primary, primary_by};
 use gs_syntax::token::{Keyword, Operator, Token};
 
 /// The form `assign` of the simple statement.
+#[inline(always)]
 #[tactic(auto, unfolding(gs_grammar::specs::Reference::read_assign))]
 pub fn read_assign<'a>(
     header: bool,
@@ -39,6 +40,7 @@ pub fn read_assign<'a>(
 }
 
 /// The form `define` of the simple statement.
+#[inline(always)]
 #[tactic(auto, unfolding(gs_grammar::specs::Reference::read_define))]
 pub fn read_define<'a>(
     header: bool,
@@ -59,6 +61,7 @@ pub fn read_define<'a>(
 }
 
 /// The form `expression` of the simple statement.
+#[inline(always)]
 #[tactic(auto, unfolding(gs_grammar::specs::Reference::read_expression))]
 pub fn read_expression<'a>(
     header: bool,
@@ -80,6 +83,7 @@ pub fn read_expression<'a>(
 }
 
 /// The form `send` of the simple statement.
+#[inline(always)]
 #[tactic(auto, unfolding(gs_grammar::specs::Reference::read_send))]
 pub fn read_send<'a>(
     header: bool,
@@ -100,6 +104,7 @@ pub fn read_send<'a>(
 }
 
 /// The form `step` of the simple statement.
+#[inline(always)]
 #[tactic(auto, unfolding(gs_grammar::specs::Reference::read_step))]
 pub fn read_step<'a>(
     header: bool,
@@ -119,6 +124,7 @@ pub fn read_step<'a>(
 }
 
 /// The form `update` of the simple statement.
+#[inline(always)]
 #[tactic(auto, unfolding(gs_grammar::specs::Reference::read_update))]
 pub fn read_update<'a>(
     header: bool,
@@ -139,6 +145,7 @@ pub fn read_update<'a>(
 }
 
 /// The simple statement that begins with the token.
+#[inline(always)]
 #[tactic(auto, unfolding(gs_grammar::specs::Reference::simple_step))]
 pub fn simple_by<'a>(
     header: bool,
@@ -175,6 +182,7 @@ pub fn simple_by<'a>(
 }
 
 /// The form `header_arm` of the arm of an if.
+#[inline(always)]
 #[tactic(auto, unfolding(gs_grammar::specs::Reference::read_header_arm))]
 pub fn read_header_arm<'a>(found: Option<Spot<'a>>, x: &Token, s: Rest<'a>) -> Option<Spot<'a>>
     requires found { Spots found (reference.simple_step s.tokens.now stands true x.now) }
@@ -191,6 +199,7 @@ pub fn read_header_arm<'a>(found: Option<Spot<'a>>, x: &Token, s: Rest<'a>) -> O
 }
 
 /// The form `bare_arm` of the arm of an if.
+#[inline(always)]
 #[tactic(auto, unfolding(gs_grammar::specs::Reference::read_bare_arm))]
 pub fn read_bare_arm<'a>(found: Option<Spot<'a>>, x: &Token, s: Rest<'a>) -> Option<Spot<'a>>
     requires found { Spots found (steps.expr_step s.tokens.now stands 5 true false x.now) }
@@ -206,6 +215,7 @@ pub fn read_bare_arm<'a>(found: Option<Spot<'a>>, x: &Token, s: Rest<'a>) -> Opt
 }
 
 /// The form `empty_arm` of the arm of an if.
+#[inline(always)]
 #[tactic(auto, unfolding(gs_grammar::specs::Reference::read_empty_arm, gs_grammar::specs::Front::front_at))]
 pub fn read_empty_arm<'a>(x: &Token, s: Rest<'a>) -> Option<Spot<'a>>
     ensures { Spots result (reference.read_empty_arm s.entry.tokens.now stands x.now) }
@@ -222,6 +232,7 @@ pub fn read_empty_arm<'a>(x: &Token, s: Rest<'a>) -> Option<Spot<'a>>
 }
 
 /// The arm of an if that begins with the token.
+#[inline(always)]
 #[tactic(auto, unfolding(gs_grammar::specs::Reference::arm_step))]
 pub fn arm_by<'a>(
     simple: Option<Spot<'a>>,
@@ -245,6 +256,7 @@ pub fn arm_by<'a>(
 }
 
 /// The form `last_arm` of the arms of an if.
+#[inline(always)]
 #[tactic(auto, unfolding(gs_grammar::specs::Reference::read_last_arm))]
 pub fn read_last_arm<'a>(found: Option<Spot<'a>>, x: &Token, s: Rest<'a>) -> Option<Spot<'a>>
     requires found { Spots found (reference.arm_step s.tokens.now stands x.now) }
@@ -261,6 +273,7 @@ pub fn read_last_arm<'a>(found: Option<Spot<'a>>, x: &Token, s: Rest<'a>) -> Opt
 }
 
 /// The form `more_arms` of the arms of an if.
+#[inline(always)]
 #[tactic(auto, unfolding(gs_grammar::specs::Reference::read_more_arms))]
 pub fn read_more_arms<'a>(found: Option<Spot<'a>>, x: &Token, s: Rest<'a>) -> Option<Spot<'a>>
     requires found { Spots found (reference.arm_step s.tokens.now stands x.now) }
@@ -277,6 +290,7 @@ pub fn read_more_arms<'a>(found: Option<Spot<'a>>, x: &Token, s: Rest<'a>) -> Op
 }
 
 /// The form `last_block` of the arms of an if.
+#[inline(always)]
 #[tactic(auto, unfolding(gs_grammar::specs::Reference::read_last_block))]
 pub fn read_last_block<'a>(found: Option<Spot<'a>>, x: &Token, s: Rest<'a>) -> Option<Spot<'a>>
     requires found { Spots found (reference.arm_step s.tokens.now stands x.now) }
@@ -295,6 +309,7 @@ pub fn read_last_block<'a>(found: Option<Spot<'a>>, x: &Token, s: Rest<'a>) -> O
 }
 
 /// The arms of an if that begins with the token.
+#[inline(always)]
 #[tactic(auto, unfolding(gs_grammar::specs::Reference::arms_step))]
 pub fn arms_by<'a>(found: Option<Spot<'a>>, x: &Token, s: Rest<'a>) -> Option<Spot<'a>>
     requires found { Spots found (reference.arm_step s.tokens.now stands x.now) }
@@ -312,6 +327,7 @@ pub fn arms_by<'a>(found: Option<Spot<'a>>, x: &Token, s: Rest<'a>) -> Option<Sp
 }
 
 /// The form `a_tag_value` of the value of a switch.
+#[inline(always)]
 #[tactic(auto, unfolding(gs_grammar::specs::Reference::read_a_tag_value))]
 pub fn read_a_tag_value<'a>(found: Option<Spot<'a>>, x: &Token, s: Rest<'a>) -> Option<Spot<'a>>
     requires found { Spots found (steps.expr_step s.tokens.now stands 5 true false x.now) }
@@ -321,6 +337,7 @@ pub fn read_a_tag_value<'a>(found: Option<Spot<'a>>, x: &Token, s: Rest<'a>) -> 
 }
 
 /// The value of a switch of the place.
+#[inline(always)]
 #[tactic(auto, using(gs_places::proofs::Laws::at_tag_value, gs_places::proofs::Laws::end_tag_value, gs_places::proofs::Laws::at_expr), unfolding(gs_grammar::specs::Reference::tag_value_step, gs_grammar::specs::Reference::read_no_tag_value, gs_grammar::specs::Front::mark_at))]
 pub fn tag_value<'a>(s: Rest<'a>) -> Option<Spot<'a>>
     ensures { Spots result ((stands s.entry.tokens.now).tag_value) }
@@ -339,6 +356,7 @@ pub fn tag_value<'a>(s: Rest<'a>) -> Option<Spot<'a>>
 }
 
 /// The form `plain_guard` of the guard of a type switch.
+#[inline(always)]
 #[tactic(auto, unfolding(gs_grammar::specs::Reference::read_plain_guard))]
 pub fn read_plain_guard<'a>(found: Option<Spot<'a>>, x: &Token, s: Rest<'a>) -> Option<Spot<'a>>
     requires found { Spots found (steps.primary_step s.tokens.now stands true x.now) }
@@ -359,6 +377,7 @@ pub fn read_plain_guard<'a>(found: Option<Spot<'a>>, x: &Token, s: Rest<'a>) -> 
 }
 
 /// The form `named_guard` of the guard of a type switch.
+#[inline(always)]
 #[tactic(auto, unfolding(gs_grammar::specs::Reference::read_named_guard))]
 pub fn read_named_guard<'a>(x: &Token, s: Rest<'a>) -> Option<Spot<'a>>
     ensures { Spots result (reference.read_named_guard s.entry.tokens.now stands x.now) }
@@ -377,6 +396,7 @@ pub fn read_named_guard<'a>(x: &Token, s: Rest<'a>) -> Option<Spot<'a>>
 }
 
 /// The guard of a type switch that begins with the token.
+#[inline(always)]
 #[tactic(auto, unfolding(gs_grammar::specs::Reference::guard_step))]
 pub fn guard_by<'a>(found: Option<Spot<'a>>, x: &Token, s: Rest<'a>) -> Option<Spot<'a>>
     requires found { Spots found (steps.primary_step s.tokens.now stands true x.now) }
@@ -390,6 +410,7 @@ pub fn guard_by<'a>(found: Option<Spot<'a>>, x: &Token, s: Rest<'a>) -> Option<S
 }
 
 /// The guard of a type switch of the place.
+#[inline(always)]
 #[tactic(auto, using(gs_places::proofs::Laws::at_guard, gs_places::proofs::Laws::end_guard, gs_places::proofs::Laws::at_type))]
 pub fn guard<'a>(s: Rest<'a>) -> Option<Spot<'a>>
     ensures { Spots result ((stands s.entry.tokens.now).guard) }
@@ -400,6 +421,7 @@ pub fn guard<'a>(s: Rest<'a>) -> Option<Spot<'a>>
 }
 
 /// The form `a_case` of the clauses of a switch.
+#[inline(always)]
 #[tactic(auto, unfolding(gs_grammar::specs::Reference::read_a_case))]
 pub fn read_a_case<'a>(x: &Token, s: Rest<'a>) -> Option<Spot<'a>>
     ensures { Spots result (reference.read_a_case s.entry.tokens.now stands x.now) }
@@ -416,6 +438,7 @@ pub fn read_a_case<'a>(x: &Token, s: Rest<'a>) -> Option<Spot<'a>>
 }
 
 /// The form `a_default` of the clauses of a switch.
+#[inline(always)]
 #[tactic(auto, unfolding(gs_grammar::specs::Reference::read_a_default))]
 pub fn read_a_default<'a>(x: &Token, s: Rest<'a>) -> Option<Spot<'a>>
     ensures { Spots result (reference.read_a_default s.entry.tokens.now stands x.now) }
@@ -431,6 +454,7 @@ pub fn read_a_default<'a>(x: &Token, s: Rest<'a>) -> Option<Spot<'a>>
 }
 
 /// The clauses of a switch that begins with the token.
+#[inline(always)]
 #[tactic(auto, unfolding(gs_grammar::specs::Reference::clauses_step, gs_grammar::specs::Reference::read_no_clauses, gs_grammar::specs::Front::mark_at))]
 pub fn clauses_by<'a>(x: &Token, s: Rest<'a>) -> Option<Cell>
     requires few { length s.tokens.now + 1 < 2 ^ 32 }
@@ -452,6 +476,7 @@ pub fn clauses_by<'a>(x: &Token, s: Rest<'a>) -> Option<Cell>
 }
 
 /// The form `one_type` of the types.
+#[inline(always)]
 #[tactic(auto, unfolding(gs_grammar::specs::Reference::read_one_type))]
 pub fn read_one_type<'a>(found_type: Option<Spot<'a>>, x: &Token, s: Rest<'a>) -> Option<Spot<'a>>
     requires found_type { Spots found_type (steps.type_step s.tokens.now stands x.now) }
@@ -468,6 +493,7 @@ pub fn read_one_type<'a>(found_type: Option<Spot<'a>>, x: &Token, s: Rest<'a>) -
 }
 
 /// The form `more_cases` of the types.
+#[inline(always)]
 #[tactic(auto, unfolding(gs_grammar::specs::Reference::read_more_cases))]
 pub fn read_more_cases<'a>(found_type: Option<Spot<'a>>, x: &Token, s: Rest<'a>) -> Option<Spot<'a>>
     requires found_type { Spots found_type (steps.type_step s.tokens.now stands x.now) }
@@ -483,6 +509,7 @@ pub fn read_more_cases<'a>(found_type: Option<Spot<'a>>, x: &Token, s: Rest<'a>)
 }
 
 /// The types that begin with the token.
+#[inline(always)]
 #[tactic(auto, unfolding(gs_grammar::specs::Reference::types_step))]
 pub fn types_by<'a>(found_type: Option<Spot<'a>>, x: &Token, s: Rest<'a>) -> Option<Spot<'a>>
     requires found_type { Spots found_type (steps.type_step s.tokens.now stands x.now) }
@@ -496,6 +523,7 @@ pub fn types_by<'a>(found_type: Option<Spot<'a>>, x: &Token, s: Rest<'a>) -> Opt
 }
 
 /// The form `a_type_case` of the clauses of a type switch.
+#[inline(always)]
 #[tactic(auto, unfolding(gs_grammar::specs::Reference::read_a_type_case))]
 pub fn read_a_type_case<'a>(x: &Token, s: Rest<'a>) -> Option<Spot<'a>>
     ensures { Spots result (reference.read_a_type_case s.entry.tokens.now stands x.now) }
@@ -512,6 +540,7 @@ pub fn read_a_type_case<'a>(x: &Token, s: Rest<'a>) -> Option<Spot<'a>>
 }
 
 /// The form `a_type_default` of the clauses of a type switch.
+#[inline(always)]
 #[tactic(auto, unfolding(gs_grammar::specs::Reference::read_a_type_default))]
 pub fn read_a_type_default<'a>(x: &Token, s: Rest<'a>) -> Option<Spot<'a>>
     ensures { Spots result (reference.read_a_type_default s.entry.tokens.now stands x.now) }
@@ -527,6 +556,7 @@ pub fn read_a_type_default<'a>(x: &Token, s: Rest<'a>) -> Option<Spot<'a>>
 }
 
 /// The clauses of a type switch that begins with the token.
+#[inline(always)]
 #[tactic(auto, unfolding(gs_grammar::specs::Reference::type_clauses_step, gs_grammar::specs::Reference::read_no_type_clauses, gs_grammar::specs::Front::mark_at))]
 pub fn type_clauses_by<'a>(x: &Token, s: Rest<'a>) -> Option<Cell>
     requires few { length s.tokens.now + 1 < 2 ^ 32 }
@@ -548,6 +578,7 @@ pub fn type_clauses_by<'a>(x: &Token, s: Rest<'a>) -> Option<Cell>
 }
 
 /// The form `comm_assign` of the communication.
+#[inline(always)]
 #[tactic(auto, unfolding(gs_grammar::specs::Reference::read_comm_assign))]
 pub fn read_comm_assign<'a>(found: Option<Spot<'a>>, x: &Token, s: Rest<'a>) -> Option<Spot<'a>>
     requires found { Spots found (steps.exprs_step s.tokens.now stands false x.now) }
@@ -563,6 +594,7 @@ pub fn read_comm_assign<'a>(found: Option<Spot<'a>>, x: &Token, s: Rest<'a>) -> 
 }
 
 /// The form `comm_define` of the communication.
+#[inline(always)]
 #[tactic(auto, unfolding(gs_grammar::specs::Reference::read_comm_define))]
 pub fn read_comm_define<'a>(found: Option<Spot<'a>>, x: &Token, s: Rest<'a>) -> Option<Spot<'a>>
     requires found { Spots found (steps.exprs_step s.tokens.now stands false x.now) }
@@ -578,6 +610,7 @@ pub fn read_comm_define<'a>(found: Option<Spot<'a>>, x: &Token, s: Rest<'a>) -> 
 }
 
 /// The form `comm_send` of the communication.
+#[inline(always)]
 #[tactic(auto, unfolding(gs_grammar::specs::Reference::read_comm_send))]
 pub fn read_comm_send<'a>(found: Option<Spot<'a>>, x: &Token, s: Rest<'a>) -> Option<Spot<'a>>
     requires found { Spots found (steps.expr_step s.tokens.now stands 5 false false x.now) }
@@ -593,6 +626,7 @@ pub fn read_comm_send<'a>(found: Option<Spot<'a>>, x: &Token, s: Rest<'a>) -> Op
 }
 
 /// The form `comm_receive` of the communication.
+#[inline(always)]
 #[tactic(auto, unfolding(gs_grammar::specs::Reference::read_comm_receive))]
 pub fn read_comm_receive<'a>(found: Option<Spot<'a>>, x: &Token, s: Rest<'a>) -> Option<Spot<'a>>
     requires found { Spots found (steps.expr_step s.tokens.now stands 5 false false x.now) }
@@ -607,6 +641,7 @@ pub fn read_comm_receive<'a>(found: Option<Spot<'a>>, x: &Token, s: Rest<'a>) ->
 }
 
 /// The communication that begins with the token.
+#[inline(always)]
 #[tactic(auto, unfolding(gs_grammar::specs::Reference::comm_step))]
 pub fn comm_by<'a>(
     exprs: Option<Spot<'a>>,
@@ -634,6 +669,7 @@ pub fn comm_by<'a>(
 }
 
 /// The communication of the place.
+#[inline(always)]
 #[tactic(auto, using(gs_places::proofs::Laws::at_comm, gs_places::proofs::Laws::end_comm, gs_places::proofs::Laws::at_exprs, gs_places::proofs::Laws::at_expr))]
 pub fn comm<'a>(s: Rest<'a>) -> Option<Spot<'a>>
     ensures { Spots result ((stands s.entry.tokens.now).comm) }
@@ -645,6 +681,7 @@ pub fn comm<'a>(s: Rest<'a>) -> Option<Spot<'a>>
 }
 
 /// The form `a_comm` of the clauses of a select.
+#[inline(always)]
 #[tactic(auto, unfolding(gs_grammar::specs::Reference::read_a_comm))]
 pub fn read_a_comm<'a>(x: &Token, s: Rest<'a>) -> Option<Spot<'a>>
     ensures { Spots result (reference.read_a_comm s.entry.tokens.now stands x.now) }
@@ -661,6 +698,7 @@ pub fn read_a_comm<'a>(x: &Token, s: Rest<'a>) -> Option<Spot<'a>>
 }
 
 /// The form `a_comm_default` of the clauses of a select.
+#[inline(always)]
 #[tactic(auto, unfolding(gs_grammar::specs::Reference::read_a_comm_default))]
 pub fn read_a_comm_default<'a>(x: &Token, s: Rest<'a>) -> Option<Spot<'a>>
     ensures { Spots result (reference.read_a_comm_default s.entry.tokens.now stands x.now) }
@@ -676,6 +714,7 @@ pub fn read_a_comm_default<'a>(x: &Token, s: Rest<'a>) -> Option<Spot<'a>>
 }
 
 /// The clauses of a select that begins with the token.
+#[inline(always)]
 #[tactic(auto, unfolding(gs_grammar::specs::Reference::comm_clauses_step, gs_grammar::specs::Reference::read_no_comms, gs_grammar::specs::Front::mark_at))]
 pub fn comm_clauses_by<'a>(x: &Token, s: Rest<'a>) -> Option<Cell>
     requires few { length s.tokens.now + 1 < 2 ^ 32 }
@@ -697,6 +736,7 @@ pub fn comm_clauses_by<'a>(x: &Token, s: Rest<'a>) -> Option<Cell>
 }
 
 /// The form `init_header` of the init statement.
+#[inline(always)]
 #[tactic(auto, unfolding(gs_grammar::specs::Reference::read_init_header))]
 pub fn read_init_header<'a>(found: Option<Spot<'a>>, x: &Token, s: Rest<'a>) -> Option<Spot<'a>>
     requires found { Spots found (reference.simple_step s.tokens.now stands true x.now) }
@@ -711,6 +751,7 @@ pub fn read_init_header<'a>(found: Option<Spot<'a>>, x: &Token, s: Rest<'a>) -> 
 }
 
 /// The form `no_header` of the init statement.
+#[inline(always)]
 #[tactic(auto, unfolding(gs_grammar::specs::Reference::read_no_header, gs_grammar::specs::Front::front_at))]
 pub fn read_no_header<'a>(x: &Token, s: Rest<'a>) -> Option<Spot<'a>>
     ensures { Spots result (reference.read_no_header s.entry.tokens.now stands x.now) }
@@ -722,6 +763,7 @@ pub fn read_no_header<'a>(x: &Token, s: Rest<'a>) -> Option<Spot<'a>>
 }
 
 /// The init statement that begins with the token.
+#[inline(always)]
 #[tactic(auto, unfolding(gs_grammar::specs::Reference::header_step))]
 pub fn header_by<'a>(found: Option<Spot<'a>>, x: &Token, s: Rest<'a>) -> Option<Spot<'a>>
     requires found { Spots found (reference.simple_step s.tokens.now stands true x.now) }
@@ -735,6 +777,7 @@ pub fn header_by<'a>(found: Option<Spot<'a>>, x: &Token, s: Rest<'a>) -> Option<
 }
 
 /// The init statement of the place.
+#[inline(always)]
 #[tactic(auto, using(gs_places::proofs::Laws::at_header, gs_places::proofs::Laws::end_header, gs_places::proofs::Laws::at_exprs, gs_places::proofs::Laws::at_expr))]
 pub fn header<'a>(s: Rest<'a>) -> Option<Spot<'a>>
     ensures { Spots result ((stands s.entry.tokens.now).header) }
@@ -745,6 +788,7 @@ pub fn header<'a>(s: Rest<'a>) -> Option<Spot<'a>>
 }
 
 /// The form `a_condition` of the condition.
+#[inline(always)]
 #[tactic(auto, unfolding(gs_grammar::specs::Reference::read_a_condition))]
 pub fn read_a_condition<'a>(found: Option<Spot<'a>>, x: &Token, s: Rest<'a>) -> Option<Spot<'a>>
     requires found { Spots found (steps.expr_step s.tokens.now stands 5 true false x.now) }
@@ -754,6 +798,7 @@ pub fn read_a_condition<'a>(found: Option<Spot<'a>>, x: &Token, s: Rest<'a>) -> 
 }
 
 /// The condition of the place.
+#[inline(always)]
 #[tactic(auto, using(gs_places::proofs::Laws::at_condition, gs_places::proofs::Laws::end_condition, gs_places::proofs::Laws::at_expr), unfolding(gs_grammar::specs::Reference::condition_step, gs_grammar::specs::Reference::read_no_condition, gs_grammar::specs::Front::front_at))]
 pub fn condition<'a>(s: Rest<'a>) -> Option<Spot<'a>>
     ensures { Spots result ((stands s.entry.tokens.now).condition) }
@@ -772,6 +817,7 @@ pub fn condition<'a>(s: Rest<'a>) -> Option<Spot<'a>>
 }
 
 /// The form `a_post` of the post statement.
+#[inline(always)]
 #[tactic(auto, using(crate::proofs::Defines::post_law))]
 pub fn read_a_post<'a>(
     exprs: Option<Spot<'a>>,
@@ -791,6 +837,7 @@ pub fn read_a_post<'a>(
 }
 
 /// The post statement of the place.
+#[inline(always)]
 #[tactic(auto, using(gs_places::proofs::Laws::at_post, gs_places::proofs::Laws::end_post, gs_places::proofs::Laws::at_exprs, gs_places::proofs::Laws::at_expr), unfolding(gs_grammar::specs::Reference::post_step, gs_grammar::specs::Reference::read_no_post, gs_grammar::specs::Front::mark_at))]
 pub fn post<'a>(s: Rest<'a>) -> Option<Spot<'a>>
     ensures { Spots result ((stands s.entry.tokens.now).post) }
@@ -810,6 +857,7 @@ pub fn post<'a>(s: Rest<'a>) -> Option<Spot<'a>>
 }
 
 /// The form `range_assign` of the left side of a range.
+#[inline(always)]
 #[tactic(auto, unfolding(gs_grammar::specs::Reference::read_range_assign))]
 pub fn read_range_assign<'a>(found: Option<Spot<'a>>, x: &Token, s: Rest<'a>) -> Option<Spot<'a>>
     requires found { Spots found (steps.exprs_step s.tokens.now stands true x.now) }
@@ -825,6 +873,7 @@ pub fn read_range_assign<'a>(found: Option<Spot<'a>>, x: &Token, s: Rest<'a>) ->
 }
 
 /// The form `range_define` of the left side of a range.
+#[inline(always)]
 #[tactic(auto, unfolding(gs_grammar::specs::Reference::read_range_define))]
 pub fn read_range_define<'a>(found: Option<Spot<'a>>, x: &Token, s: Rest<'a>) -> Option<Spot<'a>>
     requires found { Spots found (steps.exprs_step s.tokens.now stands true x.now) }
@@ -840,6 +889,7 @@ pub fn read_range_define<'a>(found: Option<Spot<'a>>, x: &Token, s: Rest<'a>) ->
 }
 
 /// The form `no_range_left` of the left side of a range.
+#[inline(always)]
 #[tactic(auto, unfolding(gs_grammar::specs::Reference::read_no_range_left))]
 pub fn read_no_range_left<'a>(x: &Token, s: Rest<'a>) -> Option<Spot<'a>>
     ensures { Spots result (reference.read_no_range_left s.entry.tokens.now stands x.now) }
@@ -849,6 +899,7 @@ pub fn read_no_range_left<'a>(x: &Token, s: Rest<'a>) -> Option<Spot<'a>>
 }
 
 /// The left side of a range that begins with the token.
+#[inline(always)]
 #[tactic(auto, unfolding(gs_grammar::specs::Reference::range_left_step))]
 pub fn range_left_by<'a>(found: Option<Spot<'a>>, x: &Token, s: Rest<'a>) -> Option<Spot<'a>>
     requires found { Spots found (steps.exprs_step s.tokens.now stands true x.now) }
@@ -866,6 +917,7 @@ pub fn range_left_by<'a>(found: Option<Spot<'a>>, x: &Token, s: Rest<'a>) -> Opt
 }
 
 /// The left side of a range of the place.
+#[inline(always)]
 #[tactic(auto, using(gs_places::proofs::Laws::at_range_left, gs_places::proofs::Laws::end_range_left, gs_places::proofs::Laws::at_exprs))]
 pub fn range_left<'a>(s: Rest<'a>) -> Option<Spot<'a>>
     ensures { Spots result ((stands s.entry.tokens.now).range_left) }

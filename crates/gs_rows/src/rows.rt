@@ -8,6 +8,7 @@ use crate::decls::{
     const_spec_by, const_specs_by, decl_by, import_spec_by, import_specs_by, type_spec_by,
     type_specs_by, var_spec_by, var_specs_by,
 };
+use crate::joints::{is_joint, joint_by};
 use crate::parts::{
     arm_by, arms_by, clauses_by, comm_clauses_by, simple_by, type_clauses_by, types_by,
 };
@@ -19,6 +20,7 @@ use gs_rows_expr::types::{idents_by, type_by, type_name_by};
 use gs_syntax::token::Token;
 
 /// What the table has of the statements and lists that begin with the token.
+#[inline(always)]
 #[tactic(auto, using(gs_places::proofs::Laws::at_stmts, gs_places::proofs::Laws::at_stmt, gs_places::proofs::Laws::at_arms, gs_places::proofs::Laws::at_clauses, gs_places::proofs::Laws::at_type_clauses, gs_places::proofs::Laws::at_comm_clauses, gs_places::proofs::Laws::at_types, gs_places::proofs::Laws::at_const_specs, gs_places::proofs::Laws::at_type_specs, gs_places::proofs::Laws::at_var_specs, gs_places::proofs::Laws::at_import_specs))]
 fn list_row<'a>(
     names: Option<Spot<'a>>,
@@ -61,6 +63,9 @@ pub fn place_by<'a>(x: &Token, s: Rest<'a>) -> Place
     requires few { length s.tokens.now + 1 < 2 ^ 32 }
     ensures { result ≡ place (x.now ∷ s.entry.tokens.now) }
 {
+    if is_joint(&x.kind) {
+        return joint_by(x, s);
+    }
     let names = idents_by(x, s);
     let found = type_by(type_name_by(x, s), x, s);
     let plain = level_by(false, found, x, s);

@@ -19,6 +19,7 @@ use gs_rows_expr::operands::block;
 use gs_syntax::token::{Keyword, Operator, Token};
 
 /// The form `some_values` of the values of a return.
+#[inline(always)]
 #[tactic(auto, unfolding(gs_grammar::specs::Reference::read_some_values))]
 pub fn read_some_values<'a>(found: Option<Spot<'a>>, x: &Token, s: Rest<'a>) -> Option<Spot<'a>>
     requires found { Spots found (steps.exprs_step s.tokens.now stands false x.now) }
@@ -28,6 +29,7 @@ pub fn read_some_values<'a>(found: Option<Spot<'a>>, x: &Token, s: Rest<'a>) -> 
 }
 
 /// The values of a return of the place.
+#[inline(always)]
 #[tactic(auto, using(gs_places::proofs::Laws::at_values, gs_places::proofs::Laws::end_values, gs_places::proofs::Laws::at_exprs), unfolding(gs_grammar::specs::Reference::values_step, gs_grammar::specs::Reference::read_no_values, gs_grammar::specs::Front::front_at))]
 pub fn values<'a>(s: Rest<'a>) -> Option<Spot<'a>>
     ensures { Spots result ((stands s.entry.tokens.now).values) }
@@ -46,6 +48,7 @@ pub fn values<'a>(s: Rest<'a>) -> Option<Spot<'a>>
 }
 
 /// The form `a_target` of the label of a branch.
+#[inline(always)]
 #[tactic(auto, unfolding(gs_grammar::specs::Reference::read_a_target))]
 pub fn read_a_target<'a>(x: &Token, s: Rest<'a>) -> Option<Spot<'a>>
     ensures { Spots result (reference.read_a_target s.entry.tokens.now stands x.now) }
@@ -55,6 +58,7 @@ pub fn read_a_target<'a>(x: &Token, s: Rest<'a>) -> Option<Spot<'a>>
 }
 
 /// The label of a branch of the place.
+#[inline(always)]
 #[tactic(auto, using(gs_places::proofs::Laws::at_target, gs_places::proofs::Laws::end_target), unfolding(gs_grammar::specs::Reference::target_step, gs_grammar::specs::Reference::read_no_target, gs_grammar::specs::Front::front_at))]
 pub fn target<'a>(s: Rest<'a>) -> Option<Spot<'a>>
     ensures { Spots result ((stands s.entry.tokens.now).target) }
@@ -72,6 +76,7 @@ pub fn target<'a>(s: Rest<'a>) -> Option<Spot<'a>>
 }
 
 /// The form `simple_stmt` of the statement.
+#[inline(always)]
 #[tactic(auto, unfolding(gs_grammar::specs::Reference::read_simple_stmt))]
 pub fn read_simple_stmt<'a>(found: Option<Spot<'a>>, x: &Token, s: Rest<'a>) -> Option<Spot<'a>>
     requires found { Spots found (reference.simple_step s.tokens.now stands false x.now) }
@@ -84,6 +89,7 @@ pub fn read_simple_stmt<'a>(found: Option<Spot<'a>>, x: &Token, s: Rest<'a>) -> 
 }
 
 /// The form `declaration_stmt` of the statement.
+#[inline(always)]
 #[tactic(auto, unfolding(gs_grammar::specs::Reference::read_declaration_stmt, gs_grammar::specs::Front::front_at))]
 pub fn read_declaration_stmt<'a>(
     found: Option<Spot<'a>>,
@@ -100,6 +106,7 @@ pub fn read_declaration_stmt<'a>(
 }
 
 /// The form `bare_label` of the statement.
+#[inline(always)]
 #[tactic(auto, unfolding(gs_grammar::specs::Reference::read_bare_label))]
 pub fn read_bare_label<'a>(x: &Token, s: Rest<'a>) -> Option<Spot<'a>>
     ensures { Spots result (reference.read_bare_label s.entry.tokens.now stands x.now) }
@@ -111,6 +118,7 @@ pub fn read_bare_label<'a>(x: &Token, s: Rest<'a>) -> Option<Spot<'a>>
 }
 
 /// The form `labeled` of the statement.
+#[inline(always)]
 #[tactic(auto, unfolding(gs_grammar::specs::Reference::read_labeled))]
 pub fn read_labeled<'a>(x: &Token, s: Rest<'a>) -> Option<Spot<'a>>
     ensures { Spots result (reference.read_labeled s.entry.tokens.now stands x.now) }
@@ -128,6 +136,7 @@ pub fn read_labeled<'a>(x: &Token, s: Rest<'a>) -> Option<Spot<'a>>
 }
 
 /// The form `go` of the statement.
+#[inline(always)]
 #[tactic(auto, unfolding(gs_grammar::specs::Reference::read_go))]
 pub fn read_go<'a>(x: &Token, s: Rest<'a>) -> Option<Spot<'a>>
     ensures { Spots result (reference.read_go s.entry.tokens.now stands x.now) }
@@ -137,6 +146,7 @@ pub fn read_go<'a>(x: &Token, s: Rest<'a>) -> Option<Spot<'a>>
 }
 
 /// The form `defer` of the statement.
+#[inline(always)]
 #[tactic(auto, unfolding(gs_grammar::specs::Reference::read_defer))]
 pub fn read_defer<'a>(x: &Token, s: Rest<'a>) -> Option<Spot<'a>>
     ensures { Spots result (reference.read_defer s.entry.tokens.now stands x.now) }
@@ -146,6 +156,7 @@ pub fn read_defer<'a>(x: &Token, s: Rest<'a>) -> Option<Spot<'a>>
 }
 
 /// The form `return` of the statement.
+#[inline(always)]
 #[tactic(auto, unfolding(gs_grammar::specs::Reference::read_return))]
 pub fn read_return<'a>(x: &Token, s: Rest<'a>) -> Option<Spot<'a>>
     ensures { Spots result (reference.read_return s.entry.tokens.now stands x.now) }
@@ -155,6 +166,7 @@ pub fn read_return<'a>(x: &Token, s: Rest<'a>) -> Option<Spot<'a>>
 }
 
 /// The form `break` of the statement.
+#[inline(always)]
 #[tactic(auto, unfolding(gs_grammar::specs::Reference::read_break))]
 pub fn read_break<'a>(x: &Token, s: Rest<'a>) -> Option<Spot<'a>>
     ensures { Spots result (reference.read_break s.entry.tokens.now stands x.now) }
@@ -164,6 +176,7 @@ pub fn read_break<'a>(x: &Token, s: Rest<'a>) -> Option<Spot<'a>>
 }
 
 /// The form `continue` of the statement.
+#[inline(always)]
 #[tactic(auto, unfolding(gs_grammar::specs::Reference::read_continue))]
 pub fn read_continue<'a>(x: &Token, s: Rest<'a>) -> Option<Spot<'a>>
     ensures { Spots result (reference.read_continue s.entry.tokens.now stands x.now) }
@@ -173,6 +186,7 @@ pub fn read_continue<'a>(x: &Token, s: Rest<'a>) -> Option<Spot<'a>>
 }
 
 /// The form `goto` of the statement.
+#[inline(always)]
 #[tactic(auto, unfolding(gs_grammar::specs::Reference::read_goto))]
 pub fn read_goto<'a>(x: &Token, s: Rest<'a>) -> Option<Spot<'a>>
     ensures { Spots result (reference.read_goto s.entry.tokens.now stands x.now) }
@@ -183,6 +197,7 @@ pub fn read_goto<'a>(x: &Token, s: Rest<'a>) -> Option<Spot<'a>>
 }
 
 /// The form `fallthrough` of the statement.
+#[inline(always)]
 #[tactic(auto, unfolding(gs_grammar::specs::Reference::read_fallthrough))]
 pub fn read_fallthrough<'a>(x: &Token, s: Rest<'a>) -> Option<Spot<'a>>
     ensures { Spots result (reference.read_fallthrough s.entry.tokens.now stands x.now) }
@@ -192,6 +207,7 @@ pub fn read_fallthrough<'a>(x: &Token, s: Rest<'a>) -> Option<Spot<'a>>
 }
 
 /// The form `block_stmt` of the statement.
+#[inline(always)]
 #[tactic(auto, unfolding(gs_grammar::specs::Reference::read_block_stmt))]
 pub fn read_block_stmt<'a>(x: &Token, s: Rest<'a>) -> Option<Spot<'a>>
     ensures { Spots result (reference.read_block_stmt s.entry.tokens.now stands x.now) }
@@ -206,6 +222,7 @@ pub fn read_block_stmt<'a>(x: &Token, s: Rest<'a>) -> Option<Spot<'a>>
 }
 
 /// The form `if_stmt` of the statement.
+#[inline(always)]
 #[tactic(auto, unfolding(gs_grammar::specs::Reference::read_if_stmt))]
 pub fn read_if_stmt<'a>(x: &Token, s: Rest<'a>) -> Option<Spot<'a>>
     ensures { Spots result (reference.read_if_stmt s.entry.tokens.now stands x.now) }
@@ -215,6 +232,7 @@ pub fn read_if_stmt<'a>(x: &Token, s: Rest<'a>) -> Option<Spot<'a>>
 }
 
 /// The form `header_type_switch` of the statement.
+#[inline(always)]
 #[tactic(auto, unfolding(gs_grammar::specs::Reference::read_header_type_switch))]
 pub fn read_header_type_switch<'a>(x: &Token, s: Rest<'a>) -> Option<Spot<'a>>
     ensures { Spots result (reference.read_header_type_switch s.entry.tokens.now stands x.now) }
@@ -232,6 +250,7 @@ pub fn read_header_type_switch<'a>(x: &Token, s: Rest<'a>) -> Option<Spot<'a>>
 }
 
 /// The form `type_switch` of the statement.
+#[inline(always)]
 #[tactic(auto, unfolding(gs_grammar::specs::Reference::read_type_switch))]
 pub fn read_type_switch<'a>(x: &Token, s: Rest<'a>) -> Option<Spot<'a>>
     ensures { Spots result (reference.read_type_switch s.entry.tokens.now stands x.now) }
@@ -251,6 +270,7 @@ pub fn read_type_switch<'a>(x: &Token, s: Rest<'a>) -> Option<Spot<'a>>
 }
 
 /// The form `header_switch` of the statement.
+#[inline(always)]
 #[tactic(auto, unfolding(gs_grammar::specs::Reference::read_header_switch))]
 pub fn read_header_switch<'a>(x: &Token, s: Rest<'a>) -> Option<Spot<'a>>
     ensures { Spots result (reference.read_header_switch s.entry.tokens.now stands x.now) }
@@ -271,6 +291,7 @@ pub fn read_header_switch<'a>(x: &Token, s: Rest<'a>) -> Option<Spot<'a>>
 }
 
 /// The form `switch` of the statement.
+#[inline(always)]
 #[tactic(auto, unfolding(gs_grammar::specs::Reference::read_switch))]
 pub fn read_switch<'a>(x: &Token, s: Rest<'a>) -> Option<Spot<'a>>
     ensures { Spots result (reference.read_switch s.entry.tokens.now stands x.now) }
@@ -293,6 +314,7 @@ pub fn read_switch<'a>(x: &Token, s: Rest<'a>) -> Option<Spot<'a>>
 }
 
 /// The form `select` of the statement.
+#[inline(always)]
 #[tactic(auto, unfolding(gs_grammar::specs::Reference::read_select))]
 pub fn read_select<'a>(x: &Token, s: Rest<'a>) -> Option<Spot<'a>>
     ensures { Spots result (reference.read_select s.entry.tokens.now stands x.now) }
@@ -308,6 +330,7 @@ pub fn read_select<'a>(x: &Token, s: Rest<'a>) -> Option<Spot<'a>>
 }
 
 /// The form `endless` of the statement.
+#[inline(always)]
 #[tactic(auto, unfolding(gs_grammar::specs::Reference::read_endless))]
 pub fn read_endless<'a>(x: &Token, s: Rest<'a>) -> Option<Spot<'a>>
     ensures { Spots result (reference.read_endless s.entry.tokens.now stands x.now) }
@@ -318,6 +341,7 @@ pub fn read_endless<'a>(x: &Token, s: Rest<'a>) -> Option<Spot<'a>>
 }
 
 /// The form `range` of the statement.
+#[inline(always)]
 #[tactic(auto, unfolding(gs_grammar::specs::Reference::read_range))]
 pub fn read_range<'a>(x: &Token, s: Rest<'a>) -> Option<Spot<'a>>
     ensures { Spots result (reference.read_range s.entry.tokens.now stands x.now) }
@@ -336,6 +360,7 @@ pub fn read_range<'a>(x: &Token, s: Rest<'a>) -> Option<Spot<'a>>
 }
 
 /// The form `loop` of the statement.
+#[inline(always)]
 #[tactic(auto, unfolding(gs_grammar::specs::Reference::read_loop))]
 pub fn read_loop<'a>(x: &Token, s: Rest<'a>) -> Option<Spot<'a>>
     ensures { Spots result (reference.read_loop s.entry.tokens.now stands x.now) }
@@ -359,6 +384,7 @@ pub fn read_loop<'a>(x: &Token, s: Rest<'a>) -> Option<Spot<'a>>
 }
 
 /// The form `while` of the statement.
+#[inline(always)]
 #[tactic(auto, unfolding(gs_grammar::specs::Reference::read_while))]
 pub fn read_while<'a>(x: &Token, s: Rest<'a>) -> Option<Spot<'a>>
     ensures { Spots result (reference.read_while s.entry.tokens.now stands x.now) }
@@ -382,6 +408,7 @@ pub fn read_while<'a>(x: &Token, s: Rest<'a>) -> Option<Spot<'a>>
 }
 
 /// The statement that begins with the token.
+#[inline(always)]
 #[tactic(auto, unfolding(gs_grammar::specs::Reference::stmt_step))]
 pub fn stmt_by<'a>(
     simple: Option<Spot<'a>>,
@@ -481,6 +508,7 @@ pub fn stmt_by<'a>(
 }
 
 /// The form `last_stmt` of the statements.
+#[inline(always)]
 #[tactic(auto, unfolding(gs_grammar::specs::Reference::read_last_stmt))]
 pub fn read_last_stmt<'a>(found: Option<Spot<'a>>, x: &Token, s: Rest<'a>) -> Option<Spot<'a>>
     requires found { Spots found (reference.stmt_step s.tokens.now stands x.now) }
@@ -495,6 +523,7 @@ pub fn read_last_stmt<'a>(found: Option<Spot<'a>>, x: &Token, s: Rest<'a>) -> Op
 }
 
 /// The form `more_stmts` of the statements.
+#[inline(always)]
 #[tactic(auto, unfolding(gs_grammar::specs::Reference::read_more_stmts))]
 pub fn read_more_stmts<'a>(found: Option<Spot<'a>>, x: &Token, s: Rest<'a>) -> Option<Spot<'a>>
     requires found { Spots found (reference.stmt_step s.tokens.now stands x.now) }
@@ -510,6 +539,7 @@ pub fn read_more_stmts<'a>(found: Option<Spot<'a>>, x: &Token, s: Rest<'a>) -> O
 }
 
 /// The form `empty_stmt` of the statements.
+#[inline(always)]
 #[tactic(auto, unfolding(gs_grammar::specs::Reference::read_empty_stmt, gs_grammar::specs::Front::front_at))]
 pub fn read_empty_stmt<'a>(x: &Token, s: Rest<'a>) -> Option<Spot<'a>>
     ensures { Spots result (reference.read_empty_stmt s.entry.tokens.now stands x.now) }
@@ -521,6 +551,7 @@ pub fn read_empty_stmt<'a>(x: &Token, s: Rest<'a>) -> Option<Spot<'a>>
 }
 
 /// The statements that begin with the token.
+#[inline(always)]
 #[tactic(auto, unfolding(gs_grammar::specs::Reference::stmts_step, gs_grammar::specs::Reference::read_no_stmts, gs_grammar::specs::Front::front_at))]
 pub fn stmts_by<'a>(found: Option<Spot<'a>>, x: &Token, s: Rest<'a>) -> Option<Cell>
     requires few { length s.tokens.now + 1 < 2 ^ 32 }

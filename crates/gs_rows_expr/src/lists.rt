@@ -12,6 +12,7 @@ use gs_places::rest::{Rest, Spot, deeper, deepest, kept, stay};
 use gs_syntax::token::{Operator, Token};
 
 /// The form `a_bound` of the index of a slice expression.
+#[inline(always)]
 #[tactic(auto, unfolding(gs_grammar::specs::Steps::read_a_bound))]
 pub fn read_a_bound<'a>(found: Option<Spot<'a>>, x: &Token, s: Rest<'a>) -> Option<Spot<'a>>
     requires found { Spots found (steps.expr_step s.tokens.now stands 5 false false x.now) }
@@ -21,6 +22,7 @@ pub fn read_a_bound<'a>(found: Option<Spot<'a>>, x: &Token, s: Rest<'a>) -> Opti
 }
 
 /// The index of a slice expression of the place.
+#[inline(always)]
 #[tactic(auto, using(gs_places::proofs::Laws::at_bound, gs_places::proofs::Laws::end_bound, gs_places::proofs::Laws::at_expr), unfolding(gs_grammar::specs::Steps::bound_step, gs_grammar::specs::Steps::read_no_bound, gs_grammar::specs::Front::front_at))]
 pub fn bound<'a>(s: Rest<'a>) -> Option<Spot<'a>>
     ensures { Spots result ((stands s.entry.tokens.now).bound) }
@@ -39,6 +41,7 @@ pub fn bound<'a>(s: Rest<'a>) -> Option<Spot<'a>>
 }
 
 /// The form `spread` of the arguments.
+#[inline(always)]
 #[tactic(auto, unfolding(gs_grammar::specs::Steps::read_spread))]
 pub fn read_spread<'a>(inner: Option<Spot<'a>>, x: &Token, s: Rest<'a>) -> Option<Spot<'a>>
     requires inner { Spots inner (steps.expr_step s.tokens.now stands 5 false true x.now) }
@@ -54,6 +57,7 @@ pub fn read_spread<'a>(inner: Option<Spot<'a>>, x: &Token, s: Rest<'a>) -> Optio
 }
 
 /// The form `last_arg` of the arguments.
+#[inline(always)]
 #[tactic(auto, unfolding(gs_grammar::specs::Steps::read_last_arg))]
 pub fn read_last_arg<'a>(inner: Option<Spot<'a>>, x: &Token, s: Rest<'a>) -> Option<Spot<'a>>
     requires inner { Spots inner (steps.expr_step s.tokens.now stands 5 false true x.now) }
@@ -71,6 +75,7 @@ pub fn read_last_arg<'a>(inner: Option<Spot<'a>>, x: &Token, s: Rest<'a>) -> Opt
 }
 
 /// The form `more_args` of the arguments.
+#[inline(always)]
 #[tactic(auto, unfolding(gs_grammar::specs::Steps::read_more_args))]
 pub fn read_more_args<'a>(inner: Option<Spot<'a>>, x: &Token, s: Rest<'a>) -> Option<Spot<'a>>
     requires inner { Spots inner (steps.expr_step s.tokens.now stands 5 false true x.now) }
@@ -89,6 +94,7 @@ pub fn read_more_args<'a>(inner: Option<Spot<'a>>, x: &Token, s: Rest<'a>) -> Op
 }
 
 /// The arguments that begin with the token.
+#[inline(always)]
 #[tactic(auto, unfolding(gs_grammar::specs::Steps::args_step, gs_grammar::specs::Steps::read_no_args, gs_grammar::specs::Front::mark_at))]
 pub fn args_by<'a>(inner: Option<Spot<'a>>, x: &Token, s: Rest<'a>) -> Option<Cell>
     requires few { length s.tokens.now + 1 < 2 ^ 32 }
@@ -115,6 +121,7 @@ pub fn args_by<'a>(inner: Option<Spot<'a>>, x: &Token, s: Rest<'a>) -> Option<Ce
 }
 
 /// The form `selector` of the suffix.
+#[inline(always)]
 #[tactic(auto, unfolding(gs_grammar::specs::Steps::read_selector))]
 pub fn read_selector<'a>(x: &Token, s: Rest<'a>) -> Option<Spot<'a>>
     ensures { Spots result (steps.read_selector s.entry.tokens.now stands x.now) }
@@ -125,6 +132,7 @@ pub fn read_selector<'a>(x: &Token, s: Rest<'a>) -> Option<Spot<'a>>
 }
 
 /// The form `assertion` of the suffix.
+#[inline(always)]
 #[tactic(auto, unfolding(gs_grammar::specs::Steps::read_assertion))]
 pub fn read_assertion<'a>(x: &Token, s: Rest<'a>) -> Option<Spot<'a>>
     ensures { Spots result (steps.read_assertion s.entry.tokens.now stands x.now) }
@@ -140,6 +148,7 @@ pub fn read_assertion<'a>(x: &Token, s: Rest<'a>) -> Option<Spot<'a>>
 }
 
 /// The form `open_slice` of the suffix.
+#[inline(always)]
 #[tactic(auto, unfolding(gs_grammar::specs::Steps::read_open_slice))]
 pub fn read_open_slice<'a>(x: &Token, s: Rest<'a>) -> Option<Spot<'a>>
     ensures { Spots result (steps.read_open_slice s.entry.tokens.now stands x.now) }
@@ -155,6 +164,7 @@ pub fn read_open_slice<'a>(x: &Token, s: Rest<'a>) -> Option<Spot<'a>>
 }
 
 /// The form `open_full_slice` of the suffix.
+#[inline(always)]
 #[tactic(auto, unfolding(gs_grammar::specs::Steps::read_open_full_slice))]
 pub fn read_open_full_slice<'a>(x: &Token, s: Rest<'a>) -> Option<Spot<'a>>
     ensures { Spots result (steps.read_open_full_slice s.entry.tokens.now stands x.now) }
@@ -172,6 +182,7 @@ pub fn read_open_full_slice<'a>(x: &Token, s: Rest<'a>) -> Option<Spot<'a>>
 }
 
 /// The form `index` of the suffix.
+#[inline(always)]
 #[tactic(auto, unfolding(gs_grammar::specs::Steps::read_index))]
 pub fn read_index<'a>(x: &Token, s: Rest<'a>) -> Option<Spot<'a>>
     ensures { Spots result (steps.read_index s.entry.tokens.now stands x.now) }
@@ -189,6 +200,7 @@ pub fn read_index<'a>(x: &Token, s: Rest<'a>) -> Option<Spot<'a>>
 }
 
 /// The form `slice_expr` of the suffix.
+#[inline(always)]
 #[tactic(auto, unfolding(gs_grammar::specs::Steps::read_slice_expr))]
 pub fn read_slice_expr<'a>(x: &Token, s: Rest<'a>) -> Option<Spot<'a>>
     ensures { Spots result (steps.read_slice_expr s.entry.tokens.now stands x.now) }
@@ -208,6 +220,7 @@ pub fn read_slice_expr<'a>(x: &Token, s: Rest<'a>) -> Option<Spot<'a>>
 }
 
 /// The form `full_slice` of the suffix.
+#[inline(always)]
 #[tactic(auto, unfolding(gs_grammar::specs::Steps::read_full_slice))]
 pub fn read_full_slice<'a>(x: &Token, s: Rest<'a>) -> Option<Spot<'a>>
     ensures { Spots result (steps.read_full_slice s.entry.tokens.now stands x.now) }
@@ -229,6 +242,7 @@ pub fn read_full_slice<'a>(x: &Token, s: Rest<'a>) -> Option<Spot<'a>>
 }
 
 /// The form `call` of the suffix.
+#[inline(always)]
 #[tactic(auto, unfolding(gs_grammar::specs::Steps::read_call))]
 pub fn read_call<'a>(x: &Token, s: Rest<'a>) -> Option<Spot<'a>>
     ensures { Spots result (steps.read_call s.entry.tokens.now stands x.now) }
@@ -243,6 +257,7 @@ pub fn read_call<'a>(x: &Token, s: Rest<'a>) -> Option<Spot<'a>>
 }
 
 /// The suffix that begins with the token.
+#[inline(always)]
 #[tactic(auto, unfolding(gs_grammar::specs::Steps::suffix_step))]
 pub fn suffix_by<'a>(x: &Token, s: Rest<'a>) -> Option<Spot<'a>>
     ensures { Spots result (steps.suffix_step s.entry.tokens.now stands x.now) }
@@ -279,6 +294,7 @@ pub fn suffix_by<'a>(x: &Token, s: Rest<'a>) -> Option<Spot<'a>>
 }
 
 /// The form `more_suffixes` of the suffixes.
+#[inline(always)]
 #[tactic(auto, unfolding(gs_grammar::specs::Steps::read_more_suffixes))]
 pub fn read_more_suffixes<'a>(found: Option<Spot<'a>>, x: &Token, s: Rest<'a>) -> Option<Spot<'a>>
     requires found { Spots found (steps.suffix_step s.tokens.now stands x.now) }
@@ -293,6 +309,7 @@ pub fn read_more_suffixes<'a>(found: Option<Spot<'a>>, x: &Token, s: Rest<'a>) -
 }
 
 /// The suffixes that begin with the token.
+#[inline(always)]
 #[tactic(auto, using(crate::proofs::Greedy::suffixes_stay, crate::proofs::Greedy::suffixes_go))]
 pub fn suffixes_by<'a>(found: Option<Spot<'a>>, x: &Token, s: Rest<'a>) -> Option<Cell>
     requires few { length s.tokens.now + 1 < 2 ^ 32 }
@@ -306,6 +323,7 @@ pub fn suffixes_by<'a>(found: Option<Spot<'a>>, x: &Token, s: Rest<'a>) -> Optio
 }
 
 /// The form `operand` of the operator with its right operand.
+#[inline(always)]
 #[tactic(auto, unfolding(gs_grammar::specs::Steps::read_operand, gs_grammar::specs::Front::front_at))]
 pub fn read_operand<'a>(level: u8, header: bool, x: &Token, s: Rest<'a>) -> Option<Spot<'a>>
     requires low { level ≤ 4 }
@@ -318,6 +336,7 @@ pub fn read_operand<'a>(level: u8, header: bool, x: &Token, s: Rest<'a>) -> Opti
 }
 
 /// The operator with its right operand that begins with the token.
+#[inline(always)]
 #[tactic(auto, unfolding(gs_grammar::specs::Steps::operand_step))]
 pub fn operand_by<'a>(level: u8, header: bool, x: &Token, s: Rest<'a>) -> Option<Spot<'a>>
     requires low { level ≤ 4 }
@@ -327,6 +346,7 @@ pub fn operand_by<'a>(level: u8, header: bool, x: &Token, s: Rest<'a>) -> Option
 }
 
 /// The form `more_operands` of the operators with their right operands.
+#[inline(always)]
 #[tactic(auto, unfolding(gs_grammar::specs::Steps::read_more_operands))]
 pub fn read_more_operands<'a>(
     level: u8,
@@ -348,6 +368,7 @@ pub fn read_more_operands<'a>(
 }
 
 /// The operators with their right operands that begin with the token.
+#[inline(always)]
 #[tactic(auto, using(crate::proofs::Greedy::operands_stay, crate::proofs::Greedy::operands_go))]
 pub fn operands_by<'a>(
     level: u8,
@@ -368,6 +389,7 @@ pub fn operands_by<'a>(
 }
 
 /// The form `value_expr` of the value of an element.
+#[inline(always)]
 #[tactic(auto, unfolding(gs_grammar::specs::Steps::read_value_expr))]
 pub fn read_value_expr<'a>(found: Option<Spot<'a>>, x: &Token, s: Rest<'a>) -> Option<Spot<'a>>
     requires found { Spots found (steps.expr_step s.tokens.now stands 5 false false x.now) }
@@ -377,6 +399,7 @@ pub fn read_value_expr<'a>(found: Option<Spot<'a>>, x: &Token, s: Rest<'a>) -> O
 }
 
 /// The form `value_literal` of the value of an element.
+#[inline(always)]
 #[tactic(auto, unfolding(gs_grammar::specs::Steps::read_value_literal))]
 pub fn read_value_literal<'a>(x: &Token, s: Rest<'a>) -> Option<Spot<'a>>
     ensures { Spots result (steps.read_value_literal s.entry.tokens.now stands x.now) }
@@ -391,6 +414,7 @@ pub fn read_value_literal<'a>(x: &Token, s: Rest<'a>) -> Option<Spot<'a>>
 }
 
 /// The value of an element that begins with the token.
+#[inline(always)]
 #[tactic(auto, unfolding(gs_grammar::specs::Steps::value_step))]
 pub fn value_by<'a>(found: Option<Spot<'a>>, x: &Token, s: Rest<'a>) -> Option<Spot<'a>>
     requires found { Spots found (steps.expr_step s.tokens.now stands 5 false false x.now) }
@@ -404,6 +428,7 @@ pub fn value_by<'a>(found: Option<Spot<'a>>, x: &Token, s: Rest<'a>) -> Option<S
 }
 
 /// The value of an element of the place.
+#[inline(always)]
 #[tactic(auto, using(gs_places::proofs::Laws::at_value, gs_places::proofs::Laws::end_value, gs_places::proofs::Laws::at_expr))]
 pub fn value_at<'a>(s: Rest<'a>) -> Option<Spot<'a>>
     ensures { Spots result ((stands s.entry.tokens.now).value) }
@@ -414,6 +439,7 @@ pub fn value_at<'a>(s: Rest<'a>) -> Option<Spot<'a>>
 }
 
 /// The form `plain_element` of the element.
+#[inline(always)]
 #[tactic(auto, unfolding(gs_grammar::specs::Steps::read_plain_element))]
 pub fn read_plain_element<'a>(found: Option<Spot<'a>>, x: &Token, s: Rest<'a>) -> Option<Spot<'a>>
     requires found { Spots found (steps.value_step s.tokens.now stands x.now) }
@@ -430,6 +456,7 @@ pub fn read_plain_element<'a>(found: Option<Spot<'a>>, x: &Token, s: Rest<'a>) -
 }
 
 /// The form `keyed_element` of the element.
+#[inline(always)]
 #[tactic(auto, unfolding(gs_grammar::specs::Steps::read_keyed_element))]
 pub fn read_keyed_element<'a>(found: Option<Spot<'a>>, x: &Token, s: Rest<'a>) -> Option<Spot<'a>>
     requires found { Spots found (steps.value_step s.tokens.now stands x.now) }
@@ -445,6 +472,7 @@ pub fn read_keyed_element<'a>(found: Option<Spot<'a>>, x: &Token, s: Rest<'a>) -
 }
 
 /// The element that begins with the token.
+#[inline(always)]
 #[tactic(auto, unfolding(gs_grammar::specs::Steps::element_step))]
 pub fn element_by<'a>(found: Option<Spot<'a>>, x: &Token, s: Rest<'a>) -> Option<Spot<'a>>
     requires found { Spots found (steps.value_step s.tokens.now stands x.now) }
@@ -458,6 +486,7 @@ pub fn element_by<'a>(found: Option<Spot<'a>>, x: &Token, s: Rest<'a>) -> Option
 }
 
 /// The form `last_element` of the elements.
+#[inline(always)]
 #[tactic(auto, unfolding(gs_grammar::specs::Steps::read_last_element))]
 pub fn read_last_element<'a>(found: Option<Spot<'a>>, x: &Token, s: Rest<'a>) -> Option<Spot<'a>>
     requires found { Spots found (steps.element_step s.tokens.now stands x.now) }
@@ -472,6 +501,7 @@ pub fn read_last_element<'a>(found: Option<Spot<'a>>, x: &Token, s: Rest<'a>) ->
 }
 
 /// The form `more_elements` of the elements.
+#[inline(always)]
 #[tactic(auto, unfolding(gs_grammar::specs::Steps::read_more_elements))]
 pub fn read_more_elements<'a>(found: Option<Spot<'a>>, x: &Token, s: Rest<'a>) -> Option<Spot<'a>>
     requires found { Spots found (steps.element_step s.tokens.now stands x.now) }
@@ -490,6 +520,7 @@ pub fn read_more_elements<'a>(found: Option<Spot<'a>>, x: &Token, s: Rest<'a>) -
 }
 
 /// The elements that begin with the token.
+#[inline(always)]
 #[tactic(auto, unfolding(gs_grammar::specs::Steps::elements_step, gs_grammar::specs::Steps::read_no_elements, gs_grammar::specs::Front::mark_at))]
 pub fn elements_by<'a>(found: Option<Spot<'a>>, x: &Token, s: Rest<'a>) -> Option<Cell>
     requires few { length s.tokens.now + 1 < 2 ^ 32 }
@@ -512,6 +543,7 @@ pub fn elements_by<'a>(found: Option<Spot<'a>>, x: &Token, s: Rest<'a>) -> Optio
 }
 
 /// The form `one_expr` of the expressions.
+#[inline(always)]
 #[tactic(auto, unfolding(gs_grammar::specs::Steps::read_one_expr))]
 pub fn read_one_expr<'a>(
     header: bool,
@@ -533,6 +565,7 @@ pub fn read_one_expr<'a>(
 }
 
 /// The form `more_exprs` of the expressions.
+#[inline(always)]
 #[tactic(auto, unfolding(gs_grammar::specs::Steps::read_more_exprs))]
 pub fn read_more_exprs<'a>(
     header: bool,
@@ -553,6 +586,7 @@ pub fn read_more_exprs<'a>(
 }
 
 /// The expressions that begin with the token.
+#[inline(always)]
 #[tactic(auto, unfolding(gs_grammar::specs::Steps::exprs_step))]
 pub fn exprs_by<'a>(
     header: bool,

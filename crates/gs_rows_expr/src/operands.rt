@@ -12,6 +12,7 @@ use gs_places::rest::{Rest, Spot, deeper, deepest};
 use gs_syntax::token::{Keyword, Operator, Token};
 
 /// The form `values_in_braces` of the literal value.
+#[inline(always)]
 #[tactic(auto, unfolding(gs_grammar::specs::Steps::read_values_in_braces))]
 pub fn read_values_in_braces<'a>(x: &Token, s: Rest<'a>) -> Option<Spot<'a>>
     ensures { Spots result (steps.read_values_in_braces s.entry.tokens.now stands x.now) }
@@ -26,6 +27,7 @@ pub fn read_values_in_braces<'a>(x: &Token, s: Rest<'a>) -> Option<Spot<'a>>
 }
 
 /// The literal value that begins with the token.
+#[inline(always)]
 #[tactic(auto, unfolding(gs_grammar::specs::Steps::literal_step))]
 pub fn literal_by<'a>(x: &Token, s: Rest<'a>) -> Option<Spot<'a>>
     ensures { Spots result (steps.literal_step s.entry.tokens.now stands x.now) }
@@ -34,6 +36,7 @@ pub fn literal_by<'a>(x: &Token, s: Rest<'a>) -> Option<Spot<'a>>
 }
 
 /// The literal value of the place.
+#[inline(always)]
 #[tactic(auto, using(gs_places::proofs::Laws::at_literal, gs_places::proofs::Laws::end_literal))]
 pub fn literal<'a>(s: Rest<'a>) -> Option<Spot<'a>>
     ensures { Spots result ((stands s.entry.tokens.now).literal) }
@@ -43,6 +46,7 @@ pub fn literal<'a>(s: Rest<'a>) -> Option<Spot<'a>>
 }
 
 /// The form `selected_literal` of the rest of a literal of a qualified type.
+#[inline(always)]
 #[tactic(auto, unfolding(gs_grammar::specs::Steps::read_selected_literal))]
 pub fn read_selected_literal<'a>(x: &Token, s: Rest<'a>) -> Option<Spot<'a>>
     ensures { Spots result (steps.read_selected_literal s.entry.tokens.now stands x.now) }
@@ -53,6 +57,7 @@ pub fn read_selected_literal<'a>(x: &Token, s: Rest<'a>) -> Option<Spot<'a>>
 }
 
 /// The rest of a literal of a qualified type that begins with the token.
+#[inline(always)]
 #[tactic(auto, unfolding(gs_grammar::specs::Steps::selected_step))]
 pub fn selected_by<'a>(x: &Token, s: Rest<'a>) -> Option<Spot<'a>>
     ensures { Spots result (steps.selected_step s.entry.tokens.now stands x.now) }
@@ -61,6 +66,7 @@ pub fn selected_by<'a>(x: &Token, s: Rest<'a>) -> Option<Spot<'a>>
 }
 
 /// The rest of a literal of a qualified type of the place.
+#[inline(always)]
 #[tactic(auto, using(gs_places::proofs::Laws::at_selected, gs_places::proofs::Laws::end_selected))]
 pub fn selected<'a>(s: Rest<'a>) -> Option<Spot<'a>>
     ensures { Spots result ((stands s.entry.tokens.now).selected) }
@@ -70,6 +76,7 @@ pub fn selected<'a>(s: Rest<'a>) -> Option<Spot<'a>>
 }
 
 /// The form `braces` of the block.
+#[inline(always)]
 #[tactic(auto, unfolding(gs_grammar::specs::Steps::read_braces))]
 pub fn read_braces<'a>(x: &Token, s: Rest<'a>) -> Option<Spot<'a>>
     ensures { Spots result (steps.read_braces s.entry.tokens.now stands x.now) }
@@ -84,6 +91,7 @@ pub fn read_braces<'a>(x: &Token, s: Rest<'a>) -> Option<Spot<'a>>
 }
 
 /// The block that begins with the token.
+#[inline(always)]
 #[tactic(auto, unfolding(gs_grammar::specs::Steps::block_step))]
 pub fn block_by<'a>(x: &Token, s: Rest<'a>) -> Option<Spot<'a>>
     ensures { Spots result (steps.block_step s.entry.tokens.now stands x.now) }
@@ -92,6 +100,7 @@ pub fn block_by<'a>(x: &Token, s: Rest<'a>) -> Option<Spot<'a>>
 }
 
 /// The block of the place.
+#[inline(always)]
 #[tactic(auto, using(gs_places::proofs::Laws::at_block, gs_places::proofs::Laws::end_block))]
 pub fn block<'a>(s: Rest<'a>) -> Option<Spot<'a>>
     ensures { Spots result ((stands s.entry.tokens.now).block) }
@@ -101,6 +110,7 @@ pub fn block<'a>(s: Rest<'a>) -> Option<Spot<'a>>
 }
 
 /// The form `received` of the type of a channel to receive from.
+#[inline(always)]
 #[tactic(auto, unfolding(gs_grammar::specs::Steps::read_received))]
 pub fn read_received<'a>(x: &Token, s: Rest<'a>) -> Option<Spot<'a>>
     ensures { Spots result (steps.read_received s.entry.tokens.now stands x.now) }
@@ -115,6 +125,7 @@ pub fn read_received<'a>(x: &Token, s: Rest<'a>) -> Option<Spot<'a>>
 }
 
 /// The type of a channel to receive from that begins with the token.
+#[inline(always)]
 #[tactic(auto, unfolding(gs_grammar::specs::Steps::received_step))]
 pub fn received_by<'a>(x: &Token, s: Rest<'a>) -> Option<Spot<'a>>
     ensures { Spots result (steps.received_step s.entry.tokens.now stands x.now) }
@@ -123,6 +134,7 @@ pub fn received_by<'a>(x: &Token, s: Rest<'a>) -> Option<Spot<'a>>
 }
 
 /// The type of a channel to receive from of the place.
+#[inline(always)]
 #[tactic(auto, using(gs_places::proofs::Laws::at_received, gs_places::proofs::Laws::end_received))]
 pub fn received<'a>(s: Rest<'a>) -> Option<Spot<'a>>
     ensures { Spots result ((stands s.entry.tokens.now).received) }
@@ -132,6 +144,7 @@ pub fn received<'a>(s: Rest<'a>) -> Option<Spot<'a>>
 }
 
 /// The form `basic_literal` of the operand.
+#[inline(always)]
 #[tactic(auto, unfolding(gs_grammar::specs::Steps::read_basic_literal, gs_grammar::specs::Front::front_at))]
 pub fn read_basic_literal<'a>(header: bool, x: &Token, s: Rest<'a>) -> Option<Spot<'a>>
     ensures { Spots result (steps.read_basic_literal s.entry.tokens.now stands header x.now) }
@@ -143,6 +156,7 @@ pub fn read_basic_literal<'a>(header: bool, x: &Token, s: Rest<'a>) -> Option<Sp
 }
 
 /// The form `header_name` of the operand.
+#[inline(always)]
 #[tactic(auto, unfolding(gs_grammar::specs::Steps::read_header_name))]
 pub fn read_header_name<'a>(header: bool, x: &Token, s: Rest<'a>) -> Option<Spot<'a>>
     ensures { Spots result (steps.read_header_name s.entry.tokens.now stands header x.now) }
@@ -155,6 +169,7 @@ pub fn read_header_name<'a>(header: bool, x: &Token, s: Rest<'a>) -> Option<Spot
 }
 
 /// The form `literal_of_selected` of the operand.
+#[inline(always)]
 #[tactic(auto, unfolding(gs_grammar::specs::Steps::read_literal_of_selected))]
 pub fn read_literal_of_selected<'a>(header: bool, x: &Token, s: Rest<'a>) -> Option<Spot<'a>>
     ensures { Spots result (steps.read_literal_of_selected s.entry.tokens.now stands header x.now) }
@@ -167,6 +182,7 @@ pub fn read_literal_of_selected<'a>(header: bool, x: &Token, s: Rest<'a>) -> Opt
 }
 
 /// The form `name` of the operand.
+#[inline(always)]
 #[tactic(auto, unfolding(gs_grammar::specs::Steps::read_name))]
 pub fn read_name<'a>(header: bool, x: &Token, s: Rest<'a>) -> Option<Spot<'a>>
     ensures { Spots result (steps.read_name s.entry.tokens.now stands header x.now) }
@@ -185,6 +201,7 @@ pub fn read_name<'a>(header: bool, x: &Token, s: Rest<'a>) -> Option<Spot<'a>>
 }
 
 /// The form `literal_of_name` of the operand.
+#[inline(always)]
 #[tactic(auto, unfolding(gs_grammar::specs::Steps::read_literal_of_name))]
 pub fn read_literal_of_name<'a>(header: bool, x: &Token, s: Rest<'a>) -> Option<Spot<'a>>
     ensures { Spots result (steps.read_literal_of_name s.entry.tokens.now stands header x.now) }
@@ -200,6 +217,7 @@ pub fn read_literal_of_name<'a>(header: bool, x: &Token, s: Rest<'a>) -> Option<
 }
 
 /// The form `paren` of the operand.
+#[inline(always)]
 #[tactic(auto, unfolding(gs_grammar::specs::Steps::read_paren))]
 pub fn read_paren<'a>(header: bool, x: &Token, s: Rest<'a>) -> Option<Spot<'a>>
     ensures { Spots result (steps.read_paren s.entry.tokens.now stands header x.now) }
@@ -214,6 +232,7 @@ pub fn read_paren<'a>(header: bool, x: &Token, s: Rest<'a>) -> Option<Spot<'a>>
 }
 
 /// The form `literal_of_type` of the operand.
+#[inline(always)]
 #[tactic(auto, unfolding(gs_grammar::specs::Steps::read_literal_of_type, gs_grammar::specs::Front::front_at))]
 pub fn read_literal_of_type<'a>(
     header: bool,
@@ -236,6 +255,7 @@ pub fn read_literal_of_type<'a>(
 }
 
 /// The form `composite_type` of the operand.
+#[inline(always)]
 #[tactic(auto, unfolding(gs_grammar::specs::Steps::read_composite_type, gs_grammar::specs::Front::front_at))]
 pub fn read_composite_type<'a>(
     header: bool,
@@ -260,6 +280,7 @@ pub fn read_composite_type<'a>(
 }
 
 /// The form `counted_literal` of the operand.
+#[inline(always)]
 #[tactic(auto, unfolding(gs_grammar::specs::Steps::read_counted_literal))]
 pub fn read_counted_literal<'a>(header: bool, x: &Token, s: Rest<'a>) -> Option<Spot<'a>>
     ensures { Spots result (steps.read_counted_literal s.entry.tokens.now stands header x.now) }
@@ -276,6 +297,7 @@ pub fn read_counted_literal<'a>(header: bool, x: &Token, s: Rest<'a>) -> Option<
 }
 
 /// The form `other_type` of the operand.
+#[inline(always)]
 #[tactic(auto, unfolding(gs_grammar::specs::Steps::read_other_type, gs_grammar::specs::Front::front_at))]
 pub fn read_other_type<'a>(
     header: bool,
@@ -293,6 +315,7 @@ pub fn read_other_type<'a>(
 }
 
 /// The form `function_literal` of the operand.
+#[inline(always)]
 #[tactic(auto, unfolding(gs_grammar::specs::Steps::read_function_literal))]
 pub fn read_function_literal<'a>(header: bool, x: &Token, s: Rest<'a>) -> Option<Spot<'a>>
     ensures { Spots result (steps.read_function_literal s.entry.tokens.now stands header x.now) }
@@ -307,6 +330,7 @@ pub fn read_function_literal<'a>(header: bool, x: &Token, s: Rest<'a>) -> Option
 }
 
 /// The form `lone_function_type` of the operand.
+#[inline(always)]
 #[tactic(auto, unfolding(gs_grammar::specs::Steps::read_lone_function_type))]
 pub fn read_lone_function_type<'a>(header: bool, x: &Token, s: Rest<'a>) -> Option<Spot<'a>>
     ensures { Spots result (steps.read_lone_function_type s.entry.tokens.now stands header x.now) }
@@ -323,6 +347,7 @@ pub fn read_lone_function_type<'a>(header: bool, x: &Token, s: Rest<'a>) -> Opti
 }
 
 /// The operand that begins with the token.
+#[inline(always)]
 #[tactic(auto, unfolding(gs_grammar::specs::Steps::head_step))]
 pub fn head_by<'a>(
     header: bool,
@@ -381,6 +406,7 @@ pub fn head_by<'a>(
 }
 
 /// The form `primary` of the primary expression.
+#[inline(always)]
 #[tactic(auto, unfolding(gs_grammar::specs::Steps::read_primary))]
 pub fn read_primary<'a>(
     header: bool,
@@ -400,6 +426,7 @@ pub fn read_primary<'a>(
 }
 
 /// The primary expression that begins with the token.
+#[inline(always)]
 #[tactic(auto, unfolding(gs_grammar::specs::Steps::primary_step))]
 pub fn primary_by<'a>(
     header: bool,
@@ -414,6 +441,7 @@ pub fn primary_by<'a>(
 }
 
 /// The primary expression of the place.
+#[inline(always)]
 #[tactic(auto, using(gs_places::proofs::Laws::at_primary, gs_places::proofs::Laws::end_primary, gs_places::proofs::Laws::at_type))]
 pub fn primary<'a>(header: bool, s: Rest<'a>) -> Option<Spot<'a>>
     ensures { Spots result ((stands s.entry.tokens.now).primary header) }
@@ -424,6 +452,7 @@ pub fn primary<'a>(header: bool, s: Rest<'a>) -> Option<Spot<'a>>
 }
 
 /// The form `bare_primary` of the unary expression.
+#[inline(always)]
 #[tactic(auto, unfolding(gs_grammar::specs::Steps::read_bare_primary))]
 pub fn read_bare_primary<'a>(
     header: bool,
@@ -439,6 +468,7 @@ pub fn read_bare_primary<'a>(
 }
 
 /// The form `signed` of the unary expression.
+#[inline(always)]
 #[tactic(auto, unfolding(gs_grammar::specs::Steps::read_signed, gs_grammar::specs::Front::front_at))]
 pub fn read_signed<'a>(header: bool, first: bool, x: &Token, s: Rest<'a>) -> Option<Spot<'a>>
     ensures { Spots result (steps.read_signed s.entry.tokens.now stands header first x.now) }
@@ -454,6 +484,7 @@ pub fn read_signed<'a>(header: bool, first: bool, x: &Token, s: Rest<'a>) -> Opt
 }
 
 /// The form `starred` of the unary expression.
+#[inline(always)]
 #[tactic(auto, unfolding(gs_grammar::specs::Steps::read_starred))]
 pub fn read_starred<'a>(header: bool, first: bool, x: &Token, s: Rest<'a>) -> Option<Spot<'a>>
     ensures { Spots result (steps.read_starred s.entry.tokens.now stands header first x.now) }
@@ -467,6 +498,7 @@ pub fn read_starred<'a>(header: bool, first: bool, x: &Token, s: Rest<'a>) -> Op
 }
 
 /// The form `receiver` of the unary expression.
+#[inline(always)]
 #[tactic(auto, unfolding(gs_grammar::specs::Steps::read_receiver))]
 pub fn read_receiver<'a>(header: bool, first: bool, x: &Token, s: Rest<'a>) -> Option<Spot<'a>>
     ensures { Spots result (steps.read_receiver s.entry.tokens.now stands header first x.now) }
@@ -483,6 +515,7 @@ pub fn read_receiver<'a>(header: bool, first: bool, x: &Token, s: Rest<'a>) -> O
 }
 
 /// The form `receive_first` of the unary expression.
+#[inline(always)]
 #[tactic(auto, unfolding(gs_grammar::specs::Steps::read_receive_first))]
 pub fn read_receive_first<'a>(header: bool, first: bool, x: &Token, s: Rest<'a>) -> Option<Spot<'a>>
     ensures { Spots result (steps.read_receive_first s.entry.tokens.now stands header first x.now) }
@@ -502,6 +535,7 @@ pub fn read_receive_first<'a>(header: bool, first: bool, x: &Token, s: Rest<'a>)
 }
 
 /// The form `receive` of the unary expression.
+#[inline(always)]
 #[tactic(auto, unfolding(gs_grammar::specs::Steps::read_receive))]
 pub fn read_receive<'a>(header: bool, first: bool, x: &Token, s: Rest<'a>) -> Option<Spot<'a>>
     ensures { Spots result (steps.read_receive s.entry.tokens.now stands header first x.now) }
@@ -518,6 +552,7 @@ pub fn read_receive<'a>(header: bool, first: bool, x: &Token, s: Rest<'a>) -> Op
 }
 
 /// The unary expression that begins with the token.
+#[inline(always)]
 #[tactic(auto, unfolding(gs_grammar::specs::Steps::unary_step))]
 pub fn unary_by<'a>(
     header: bool,
@@ -553,6 +588,7 @@ pub fn unary_by<'a>(
 }
 
 /// The expressions with one more precedence of operators outside brackets.
+#[inline(always)]
 #[tactic(auto, unfolding(gs_grammar::specs::Steps::expr_step))]
 pub fn looser<'a>(
     level: u8,
@@ -575,6 +611,7 @@ pub fn looser<'a>(
 }
 
 /// The loosest expressions, from those without operators outside brackets.
+#[inline(always)]
 #[tactic(auto, unfolding(gs_grammar::specs::Steps::expr_step))]
 pub fn loosest<'a>(
     header: bool,

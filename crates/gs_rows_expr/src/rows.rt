@@ -13,11 +13,13 @@ use crate::types::{
     field_by, fields_by, idents_by, member_by, members_by, named_params_by, type_by, type_name_by,
     unnamed_by,
 };
+use gs_places::front::is_mark;
 use gs_places::place::{Cell, Exprs, Levels, Types};
 use gs_places::rest::{Rest, Spot, kept};
-use gs_syntax::token::Token;
+use gs_syntax::token::{Operator, Token};
 
 /// The types that begin with the token, and their parts.
+#[inline(always)]
 #[tactic(auto, using(gs_places::proofs::Laws::at_idents, gs_places::proofs::Laws::at_type, gs_places::proofs::Laws::at_unnamed, gs_places::proofs::Laws::at_named_params, gs_places::proofs::Laws::at_fields, gs_places::proofs::Laws::at_members))]
 pub fn type_row<'a>(
     names: Option<Spot<'a>>,
@@ -43,8 +45,9 @@ pub fn type_row<'a>(
 }
 
 /// The operators of a precedence with what is on their right, from the token on.
+#[inline(always)]
 #[tactic(auto, using(gs_places::proofs::Laws::at_operands))]
-fn operators<'a>(level: u8, header: bool, x: &Token, s: Rest<'a>) -> Option<Cell>
+pub fn operators<'a>(level: u8, header: bool, x: &Token, s: Rest<'a>) -> Option<Cell>
     requires few { length s.tokens.now + 1 < 2 ^ 32 }
     requires low { level ≤ 4 }
     ensures { result ≡ cell ((stands (x.now ∷ s.entry.tokens.now)).operands level header) }
@@ -53,6 +56,7 @@ fn operators<'a>(level: u8, header: bool, x: &Token, s: Rest<'a>) -> Option<Cell
 }
 
 /// An expression without operators outside brackets.
+#[inline(always)]
 #[tactic(auto, unfolding(gs_grammar::specs::Steps::expr_step))]
 fn alone<'a>(header: bool, unary: Option<Spot<'a>>, x: &Token, s: Rest<'a>) -> Option<Spot<'a>>
     requires { Spots unary (steps.unary_step s.tokens.now stands header false x.now) }
@@ -71,6 +75,7 @@ pub struct Level<'a> {
 }
 
 /// The expressions that begin with the token, in a header or not, from those without operators outside brackets.
+#[inline(always)]
 #[tactic(auto, using(gs_places::proofs::Laws::at_unary, gs_places::proofs::Laws::at_expr, gs_places::proofs::Laws::at_exprs))]
 fn level_row<'a>(
     header: bool,
@@ -115,7 +120,30 @@ fn level_row<'a>(
     }
 }
 
+/// An expression without operators outside brackets, where it stands first in parentheses or arguments: another one only where a
+/// star or an arrow begins it.
+#[inline(always)]
+#[tactic(auto, using(crate::proofs::Firsts::same_unary))]
+fn first_by<'a>(
+    header: bool,
+    primary: Option<Spot<'a>>,
+    unary: Option<Spot<'a>>,
+    x: &Token,
+    s: Rest<'a>,
+) -> Option<Spot<'a>>
+    requires primary { Spots primary (steps.primary_step s.tokens.now stands header x.now) }
+    requires unary { Spots unary (steps.unary_step s.tokens.now stands header false x.now) }
+    ensures { Spots result (steps.unary_step s.entry.tokens.now stands header true x.now) }
+{
+    if is_mark(Operator::Star, &x.kind) || is_mark(Operator::Arrow, &x.kind) {
+        unary_by(header, true, primary, x, s)
+    } else {
+        unary
+    }
+}
+
 /// The expressions that begin with the token, in a header or not.
+#[inline(always)]
 pub fn level_by<'a>(header: bool, found: Option<Spot<'a>>, x: &Token, s: Rest<'a>) -> Level<'a>
     requires few { length s.tokens.now + 1 < 2 ^ 32 }
     requires found { Spots found (steps.type_step s.tokens.now stands x.now) }
@@ -125,20 +153,33 @@ pub fn level_by<'a>(header: bool, found: Option<Spot<'a>>, x: &Token, s: Rest<'a
 {
     let primary = primary_by(header, head_by(header, found, x, s), x, s);
     let unary = unary_by(header, false, primary, x, s);
-    let first = unary_by(header, true, primary, x, s);
+    let first = first_by(header, primary, unary, x, s);
     level_row(header, unary, first, x, s)
 }
 
-/// The expression at the front of arguments or of parentheses.
-fn inner_by<'a>(found: Option<Spot<'a>>, x: &Token, s: Rest<'a>) -> Option<Spot<'a>>
-    requires { Spots found (steps.type_step s.tokens.now stands x.now) }
+/// The expression at the front of arguments or of parentheses, from the one that stands elsewhere.
+#[inline(always)]
+#[tactic(auto, using(crate::proofs::Firsts::same_expr))]
+fn inner_by<'a>(
+    plain: Option<Spot<'a>>,
+    found: Option<Spot<'a>>,
+    x: &Token,
+    s: Rest<'a>,
+) -> Option<Spot<'a>>
+    requires plain { Spots plain (steps.expr_step s.tokens.now stands 5 false false x.now) }
+    requires found { Spots found (steps.type_step s.tokens.now stands x.now) }
     ensures { Spots result (steps.expr_step s.entry.tokens.now stands 5 false true x.now) }
 {
-    let primary = primary_by(false, head_by(false, found, x, s), x, s);
-    loosest(false, true, unary_by(false, true, primary, x, s), x, s)
+    if is_mark(Operator::Star, &x.kind) || is_mark(Operator::Arrow, &x.kind) {
+        let primary = primary_by(false, head_by(false, found, x, s), x, s);
+        loosest(false, true, unary_by(false, true, primary, x, s), x, s)
+    } else {
+        plain
+    }
 }
 
 /// What the table has of the expressions that begin with the token.
+#[inline(always)]
 #[tactic(auto, using(gs_places::proofs::Laws::at_expr, gs_places::proofs::Laws::at_suffixes, gs_places::proofs::Laws::at_args, gs_places::proofs::Laws::at_elements))]
 pub fn expr_row<'a>(
     plain: Level<'a>,
@@ -154,7 +195,7 @@ pub fn expr_row<'a>(
     requires loosest { Spots plain.found (steps.expr_step s.tokens.now stands 5 false false x.now) }
     ensures { result ≡ exprs_at (x.now ∷ s.entry.tokens.now) }
 {
-    let inner = inner_by(found, x, s);
+    let inner = inner_by(plain.found, found, x, s);
     Exprs {
         plain: plain.levels,
         header: header.levels,

@@ -17,6 +17,7 @@ use gs_places::rest::{Rest, Spot, deeper, deepest, kept, stay};
 use gs_syntax::token::{Keyword, Operator, Token};
 
 /// The form `one_name` of the names.
+#[inline(always)]
 #[tactic(auto, unfolding(gs_grammar::specs::Steps::read_one_name))]
 pub fn read_one_name<'a>(x: &Token, s: Rest<'a>) -> Option<Spot<'a>>
     ensures { Spots result (steps.read_one_name s.entry.tokens.now stands x.now) }
@@ -29,6 +30,7 @@ pub fn read_one_name<'a>(x: &Token, s: Rest<'a>) -> Option<Spot<'a>>
 }
 
 /// The form `more_names` of the names.
+#[inline(always)]
 #[tactic(auto, unfolding(gs_grammar::specs::Steps::read_more_names))]
 pub fn read_more_names<'a>(x: &Token, s: Rest<'a>) -> Option<Spot<'a>>
     ensures { Spots result (steps.read_more_names s.entry.tokens.now stands x.now) }
@@ -39,6 +41,7 @@ pub fn read_more_names<'a>(x: &Token, s: Rest<'a>) -> Option<Spot<'a>>
 }
 
 /// The names that begin with the token.
+#[inline(always)]
 #[tactic(auto, unfolding(gs_grammar::specs::Steps::idents_step))]
 pub fn idents_by<'a>(x: &Token, s: Rest<'a>) -> Option<Spot<'a>>
     ensures { Spots result (steps.idents_step s.entry.tokens.now stands x.now) }
@@ -51,6 +54,7 @@ pub fn idents_by<'a>(x: &Token, s: Rest<'a>) -> Option<Spot<'a>>
 }
 
 /// The form `bare` of the type name.
+#[inline(always)]
 #[tactic(auto, unfolding(gs_grammar::specs::Steps::read_bare))]
 pub fn read_bare<'a>(x: &Token, s: Rest<'a>) -> Option<Spot<'a>>
     ensures { Spots result (steps.read_bare s.entry.tokens.now stands x.now) }
@@ -63,6 +67,7 @@ pub fn read_bare<'a>(x: &Token, s: Rest<'a>) -> Option<Spot<'a>>
 }
 
 /// The form `qualified` of the type name.
+#[inline(always)]
 #[tactic(auto, unfolding(gs_grammar::specs::Steps::read_qualified))]
 pub fn read_qualified<'a>(x: &Token, s: Rest<'a>) -> Option<Spot<'a>>
     ensures { Spots result (steps.read_qualified s.entry.tokens.now stands x.now) }
@@ -74,6 +79,7 @@ pub fn read_qualified<'a>(x: &Token, s: Rest<'a>) -> Option<Spot<'a>>
 }
 
 /// The type name that begins with the token.
+#[inline(always)]
 #[tactic(auto, unfolding(gs_grammar::specs::Steps::type_name_step))]
 pub fn type_name_by<'a>(x: &Token, s: Rest<'a>) -> Option<Spot<'a>>
     ensures { Spots result (steps.type_name_step s.entry.tokens.now stands x.now) }
@@ -86,6 +92,7 @@ pub fn type_name_by<'a>(x: &Token, s: Rest<'a>) -> Option<Spot<'a>>
 }
 
 /// The type name of the place.
+#[inline(always)]
 #[tactic(auto, using(gs_places::proofs::Laws::at_type_name, gs_places::proofs::Laws::end_type_name))]
 pub fn type_name<'a>(s: Rest<'a>) -> Option<Spot<'a>>
     ensures { Spots result ((stands s.entry.tokens.now).type_name) }
@@ -95,6 +102,7 @@ pub fn type_name<'a>(s: Rest<'a>) -> Option<Spot<'a>>
 }
 
 /// The form `named` of the type.
+#[inline(always)]
 #[tactic(auto, unfolding(gs_grammar::specs::Steps::read_named))]
 pub fn read_named<'a>(found: Option<Spot<'a>>, x: &Token, s: Rest<'a>) -> Option<Spot<'a>>
     requires found { Spots found (steps.type_name_step s.tokens.now stands x.now) }
@@ -104,6 +112,7 @@ pub fn read_named<'a>(found: Option<Spot<'a>>, x: &Token, s: Rest<'a>) -> Option
 }
 
 /// The form `paren_type` of the type.
+#[inline(always)]
 #[tactic(auto, unfolding(gs_grammar::specs::Steps::read_paren_type))]
 pub fn read_paren_type<'a>(x: &Token, s: Rest<'a>) -> Option<Spot<'a>>
     ensures { Spots result (steps.read_paren_type s.entry.tokens.now stands x.now) }
@@ -118,6 +127,7 @@ pub fn read_paren_type<'a>(x: &Token, s: Rest<'a>) -> Option<Spot<'a>>
 }
 
 /// The form `pointer` of the type.
+#[inline(always)]
 #[tactic(auto, unfolding(gs_grammar::specs::Steps::read_pointer))]
 pub fn read_pointer<'a>(x: &Token, s: Rest<'a>) -> Option<Spot<'a>>
     ensures { Spots result (steps.read_pointer s.entry.tokens.now stands x.now) }
@@ -131,6 +141,7 @@ pub fn read_pointer<'a>(x: &Token, s: Rest<'a>) -> Option<Spot<'a>>
 }
 
 /// The form `slice` of the type.
+#[inline(always)]
 #[tactic(auto, unfolding(gs_grammar::specs::Steps::read_slice))]
 pub fn read_slice<'a>(x: &Token, s: Rest<'a>) -> Option<Spot<'a>>
     ensures { Spots result (steps.read_slice s.entry.tokens.now stands x.now) }
@@ -145,6 +156,7 @@ pub fn read_slice<'a>(x: &Token, s: Rest<'a>) -> Option<Spot<'a>>
 }
 
 /// The form `array` of the type.
+#[inline(always)]
 #[tactic(auto, unfolding(gs_grammar::specs::Steps::read_array))]
 pub fn read_array<'a>(x: &Token, s: Rest<'a>) -> Option<Spot<'a>>
     ensures { Spots result (steps.read_array s.entry.tokens.now stands x.now) }
@@ -166,6 +178,7 @@ pub fn read_array<'a>(x: &Token, s: Rest<'a>) -> Option<Spot<'a>>
 }
 
 /// The form `map_type` of the type.
+#[inline(always)]
 #[tactic(auto, unfolding(gs_grammar::specs::Steps::read_map_type))]
 pub fn read_map_type<'a>(x: &Token, s: Rest<'a>) -> Option<Spot<'a>>
     ensures { Spots result (steps.read_map_type s.entry.tokens.now stands x.now) }
@@ -182,6 +195,7 @@ pub fn read_map_type<'a>(x: &Token, s: Rest<'a>) -> Option<Spot<'a>>
 }
 
 /// The form `channel` of the type.
+#[inline(always)]
 #[tactic(auto, unfolding(gs_grammar::specs::Steps::read_channel))]
 pub fn read_channel<'a>(x: &Token, s: Rest<'a>) -> Option<Spot<'a>>
     ensures { Spots result (steps.read_channel s.entry.tokens.now stands x.now) }
@@ -198,6 +212,7 @@ pub fn read_channel<'a>(x: &Token, s: Rest<'a>) -> Option<Spot<'a>>
 }
 
 /// The form `send_channel` of the type.
+#[inline(always)]
 #[tactic(auto, unfolding(gs_grammar::specs::Steps::read_send_channel))]
 pub fn read_send_channel<'a>(x: &Token, s: Rest<'a>) -> Option<Spot<'a>>
     ensures { Spots result (steps.read_send_channel s.entry.tokens.now stands x.now) }
@@ -212,6 +227,7 @@ pub fn read_send_channel<'a>(x: &Token, s: Rest<'a>) -> Option<Spot<'a>>
 }
 
 /// The form `receive_channel` of the type.
+#[inline(always)]
 #[tactic(auto, unfolding(gs_grammar::specs::Steps::read_receive_channel))]
 pub fn read_receive_channel<'a>(x: &Token, s: Rest<'a>) -> Option<Spot<'a>>
     ensures { Spots result (steps.read_receive_channel s.entry.tokens.now stands x.now) }
@@ -226,6 +242,7 @@ pub fn read_receive_channel<'a>(x: &Token, s: Rest<'a>) -> Option<Spot<'a>>
 }
 
 /// The form `function_type` of the type.
+#[inline(always)]
 #[tactic(auto, unfolding(gs_grammar::specs::Steps::read_function_type))]
 pub fn read_function_type<'a>(x: &Token, s: Rest<'a>) -> Option<Spot<'a>>
     ensures { Spots result (steps.read_function_type s.entry.tokens.now stands x.now) }
@@ -239,6 +256,7 @@ pub fn read_function_type<'a>(x: &Token, s: Rest<'a>) -> Option<Spot<'a>>
 }
 
 /// The form `struct_type` of the type.
+#[inline(always)]
 #[tactic(auto, unfolding(gs_grammar::specs::Steps::read_struct_type))]
 pub fn read_struct_type<'a>(x: &Token, s: Rest<'a>) -> Option<Spot<'a>>
     ensures { Spots result (steps.read_struct_type s.entry.tokens.now stands x.now) }
@@ -254,6 +272,7 @@ pub fn read_struct_type<'a>(x: &Token, s: Rest<'a>) -> Option<Spot<'a>>
 }
 
 /// The form `interface_type` of the type.
+#[inline(always)]
 #[tactic(auto, unfolding(gs_grammar::specs::Steps::read_interface_type))]
 pub fn read_interface_type<'a>(x: &Token, s: Rest<'a>) -> Option<Spot<'a>>
     ensures { Spots result (steps.read_interface_type s.entry.tokens.now stands x.now) }
@@ -269,6 +288,7 @@ pub fn read_interface_type<'a>(x: &Token, s: Rest<'a>) -> Option<Spot<'a>>
 }
 
 /// The type that begins with the token.
+#[inline(always)]
 #[tactic(auto, unfolding(gs_grammar::specs::Steps::type_step))]
 pub fn type_by<'a>(found: Option<Spot<'a>>, x: &Token, s: Rest<'a>) -> Option<Spot<'a>>
     requires found { Spots found (steps.type_name_step s.tokens.now stands x.now) }
@@ -322,6 +342,7 @@ pub fn type_by<'a>(found: Option<Spot<'a>>, x: &Token, s: Rest<'a>) -> Option<Sp
 }
 
 /// The form `last_type` of the parameters without names.
+#[inline(always)]
 #[tactic(auto, unfolding(gs_grammar::specs::Steps::read_last_type))]
 pub fn read_last_type<'a>(
     dots: bool,
@@ -341,6 +362,7 @@ pub fn read_last_type<'a>(
 }
 
 /// The form `more_types` of the parameters without names.
+#[inline(always)]
 #[tactic(auto, unfolding(gs_grammar::specs::Steps::read_more_types))]
 pub fn read_more_types<'a>(
     dots: bool,
@@ -364,6 +386,7 @@ pub fn read_more_types<'a>(
 }
 
 /// The form `last_dots` of the parameters without names.
+#[inline(always)]
 #[tactic(auto, unfolding(gs_grammar::specs::Steps::read_last_dots))]
 pub fn read_last_dots<'a>(dots: bool, x: &Token, s: Rest<'a>) -> Option<Spot<'a>>
     ensures { Spots result (steps.read_last_dots s.entry.tokens.now stands dots x.now) }
@@ -381,6 +404,7 @@ pub fn read_last_dots<'a>(dots: bool, x: &Token, s: Rest<'a>) -> Option<Spot<'a>
 }
 
 /// The parameters without names that begin with the token.
+#[inline(always)]
 #[tactic(auto, unfolding(gs_grammar::specs::Steps::unnamed_step))]
 pub fn unnamed_by<'a>(
     dots: bool,
@@ -403,6 +427,7 @@ pub fn unnamed_by<'a>(
 }
 
 /// The form `last_named_dots` of the parameters with names.
+#[inline(always)]
 #[tactic(auto, using(crate::proofs::Singles::named_dots))]
 pub fn read_last_named_dots<'a>(
     dots: bool,
@@ -427,6 +452,7 @@ pub fn read_last_named_dots<'a>(
 }
 
 /// The form `last_named` of the parameters with names.
+#[inline(always)]
 #[tactic(auto, unfolding(gs_grammar::specs::Steps::read_last_named))]
 pub fn read_last_named<'a>(
     dots: bool,
@@ -450,6 +476,7 @@ pub fn read_last_named<'a>(
 }
 
 /// The form `more_named` of the parameters with names.
+#[inline(always)]
 #[tactic(auto, unfolding(gs_grammar::specs::Steps::read_more_named))]
 pub fn read_more_named<'a>(
     dots: bool,
@@ -477,6 +504,7 @@ pub fn read_more_named<'a>(
 }
 
 /// The parameters with names that begin with the token.
+#[inline(always)]
 #[tactic(auto, unfolding(gs_grammar::specs::Steps::named_params_step))]
 pub fn named_params_by<'a>(
     dots: bool,
@@ -499,6 +527,7 @@ pub fn named_params_by<'a>(
 }
 
 /// The form `no_params` of the parameters.
+#[inline(always)]
 #[tactic(auto, unfolding(gs_grammar::specs::Steps::read_no_params))]
 pub fn read_no_params<'a>(dots: bool, x: &Token, s: Rest<'a>) -> Option<Spot<'a>>
     ensures { Spots result (steps.read_no_params s.entry.tokens.now stands dots x.now) }
@@ -509,6 +538,7 @@ pub fn read_no_params<'a>(dots: bool, x: &Token, s: Rest<'a>) -> Option<Spot<'a>
 }
 
 /// The form `named_list` of the parameters.
+#[inline(always)]
 #[tactic(auto, unfolding(gs_grammar::specs::Steps::read_named_list))]
 pub fn read_named_list<'a>(dots: bool, x: &Token, s: Rest<'a>) -> Option<Spot<'a>>
     ensures { Spots result (steps.read_named_list s.entry.tokens.now stands dots x.now) }
@@ -526,6 +556,7 @@ pub fn read_named_list<'a>(dots: bool, x: &Token, s: Rest<'a>) -> Option<Spot<'a
 }
 
 /// The form `unnamed_list` of the parameters.
+#[inline(always)]
 #[tactic(auto, unfolding(gs_grammar::specs::Steps::read_unnamed_list))]
 pub fn read_unnamed_list<'a>(dots: bool, x: &Token, s: Rest<'a>) -> Option<Spot<'a>>
     ensures { Spots result (steps.read_unnamed_list s.entry.tokens.now stands dots x.now) }
@@ -546,6 +577,7 @@ pub fn read_unnamed_list<'a>(dots: bool, x: &Token, s: Rest<'a>) -> Option<Spot<
 }
 
 /// The parameters that begin with the token.
+#[inline(always)]
 #[tactic(auto, unfolding(gs_grammar::specs::Steps::params_step))]
 pub fn params_by<'a>(dots: bool, x: &Token, s: Rest<'a>) -> Option<Spot<'a>>
     ensures { Spots result (steps.params_step s.entry.tokens.now stands dots x.now) }
@@ -562,6 +594,7 @@ pub fn params_by<'a>(dots: bool, x: &Token, s: Rest<'a>) -> Option<Spot<'a>>
 }
 
 /// The parameters of the place.
+#[inline(always)]
 #[tactic(auto, using(gs_places::proofs::Laws::at_params, gs_places::proofs::Laws::end_params))]
 pub fn params<'a>(dots: bool, s: Rest<'a>) -> Option<Spot<'a>>
     ensures { Spots result ((stands s.entry.tokens.now).params dots) }
@@ -571,6 +604,7 @@ pub fn params<'a>(dots: bool, s: Rest<'a>) -> Option<Spot<'a>>
 }
 
 /// The form `results` of the signature.
+#[inline(always)]
 #[tactic(auto, unfolding(gs_grammar::specs::Steps::read_results))]
 pub fn read_results<'a>(found: Option<Spot<'a>>, x: &Token, s: Rest<'a>) -> Option<Spot<'a>>
     requires found { Spots found (steps.params_step s.tokens.now stands true x.now) }
@@ -586,6 +620,7 @@ pub fn read_results<'a>(found: Option<Spot<'a>>, x: &Token, s: Rest<'a>) -> Opti
 }
 
 /// The form `result` of the signature.
+#[inline(always)]
 #[tactic(auto, unfolding(gs_grammar::specs::Steps::read_result))]
 pub fn read_result<'a>(found: Option<Spot<'a>>, x: &Token, s: Rest<'a>) -> Option<Spot<'a>>
     requires found { Spots found (steps.params_step s.tokens.now stands true x.now) }
@@ -603,6 +638,7 @@ pub fn read_result<'a>(found: Option<Spot<'a>>, x: &Token, s: Rest<'a>) -> Optio
 }
 
 /// The form `plain` of the signature.
+#[inline(always)]
 #[tactic(auto, unfolding(gs_grammar::specs::Steps::read_plain))]
 pub fn read_plain<'a>(found: Option<Spot<'a>>, x: &Token, s: Rest<'a>) -> Option<Spot<'a>>
     requires found { Spots found (steps.params_step s.tokens.now stands true x.now) }
@@ -622,6 +658,7 @@ pub fn read_plain<'a>(found: Option<Spot<'a>>, x: &Token, s: Rest<'a>) -> Option
 }
 
 /// The signature that begins with the token.
+#[inline(always)]
 #[tactic(auto, unfolding(gs_grammar::specs::Steps::signature_step))]
 pub fn signature_by<'a>(found: Option<Spot<'a>>, x: &Token, s: Rest<'a>) -> Option<Spot<'a>>
     requires found { Spots found (steps.params_step s.tokens.now stands true x.now) }
@@ -639,6 +676,7 @@ pub fn signature_by<'a>(found: Option<Spot<'a>>, x: &Token, s: Rest<'a>) -> Opti
 }
 
 /// The signature of the place.
+#[inline(always)]
 #[tactic(auto, using(gs_places::proofs::Laws::at_signature, gs_places::proofs::Laws::end_signature))]
 pub fn signature<'a>(s: Rest<'a>) -> Option<Spot<'a>>
     ensures { Spots result ((stands s.entry.tokens.now).signature) }
@@ -649,6 +687,7 @@ pub fn signature<'a>(s: Rest<'a>) -> Option<Spot<'a>>
 }
 
 /// The form `a_tag` of the tag.
+#[inline(always)]
 #[tactic(auto, unfolding(gs_grammar::specs::Steps::read_a_tag))]
 pub fn read_a_tag<'a>(x: &Token, s: Rest<'a>) -> Option<Spot<'a>>
     ensures { Spots result (steps.read_a_tag s.entry.tokens.now stands x.now) }
@@ -658,6 +697,7 @@ pub fn read_a_tag<'a>(x: &Token, s: Rest<'a>) -> Option<Spot<'a>>
 }
 
 /// The tag of the place.
+#[inline(always)]
 #[tactic(auto, using(gs_places::proofs::Laws::at_tag, gs_places::proofs::Laws::end_tag), unfolding(gs_grammar::specs::Steps::tag_step, gs_grammar::specs::Steps::read_no_tag, gs_grammar::specs::Front::front_at))]
 pub fn tag<'a>(s: Rest<'a>) -> Option<Spot<'a>>
     ensures { Spots result ((stands s.entry.tokens.now).tag) }
@@ -675,6 +715,7 @@ pub fn tag<'a>(s: Rest<'a>) -> Option<Spot<'a>>
 }
 
 /// The form `named_field` of the field.
+#[inline(always)]
 #[tactic(auto, unfolding(gs_grammar::specs::Steps::read_named_field))]
 pub fn read_named_field<'a>(names: Option<Spot<'a>>, x: &Token, s: Rest<'a>) -> Option<Spot<'a>>
     requires names { Spots names (steps.idents_step s.tokens.now stands x.now) }
@@ -696,6 +737,7 @@ pub fn read_named_field<'a>(names: Option<Spot<'a>>, x: &Token, s: Rest<'a>) -> 
 }
 
 /// The form `embedded_field` of the field.
+#[inline(always)]
 #[tactic(auto, unfolding(gs_grammar::specs::Steps::read_embedded_field))]
 pub fn read_embedded_field<'a>(x: &Token, s: Rest<'a>) -> Option<Spot<'a>>
     ensures { Spots result (steps.read_embedded_field s.entry.tokens.now stands x.now) }
@@ -706,6 +748,7 @@ pub fn read_embedded_field<'a>(x: &Token, s: Rest<'a>) -> Option<Spot<'a>>
 }
 
 /// The form `qualified_field` of the field.
+#[inline(always)]
 #[tactic(auto, unfolding(gs_grammar::specs::Steps::read_qualified_field))]
 pub fn read_qualified_field<'a>(x: &Token, s: Rest<'a>) -> Option<Spot<'a>>
     ensures { Spots result (steps.read_qualified_field s.entry.tokens.now stands x.now) }
@@ -717,6 +760,7 @@ pub fn read_qualified_field<'a>(x: &Token, s: Rest<'a>) -> Option<Spot<'a>>
 }
 
 /// The form `pointer_field` of the field.
+#[inline(always)]
 #[tactic(auto, unfolding(gs_grammar::specs::Steps::read_pointer_field))]
 pub fn read_pointer_field<'a>(x: &Token, s: Rest<'a>) -> Option<Spot<'a>>
     ensures { Spots result (steps.read_pointer_field s.entry.tokens.now stands x.now) }
@@ -731,6 +775,7 @@ pub fn read_pointer_field<'a>(x: &Token, s: Rest<'a>) -> Option<Spot<'a>>
 }
 
 /// The field that begins with the token.
+#[inline(always)]
 #[tactic(auto, unfolding(gs_grammar::specs::Steps::field_step))]
 pub fn field_by<'a>(names: Option<Spot<'a>>, x: &Token, s: Rest<'a>) -> Option<Spot<'a>>
     requires names { Spots names (steps.idents_step s.tokens.now stands x.now) }
@@ -752,6 +797,7 @@ pub fn field_by<'a>(names: Option<Spot<'a>>, x: &Token, s: Rest<'a>) -> Option<S
 }
 
 /// The form `last_field` of the fields.
+#[inline(always)]
 #[tactic(auto, unfolding(gs_grammar::specs::Steps::read_last_field))]
 pub fn read_last_field<'a>(found: Option<Spot<'a>>, x: &Token, s: Rest<'a>) -> Option<Spot<'a>>
     requires found { Spots found (steps.field_step s.tokens.now stands x.now) }
@@ -766,6 +812,7 @@ pub fn read_last_field<'a>(found: Option<Spot<'a>>, x: &Token, s: Rest<'a>) -> O
 }
 
 /// The form `more_fields` of the fields.
+#[inline(always)]
 #[tactic(auto, unfolding(gs_grammar::specs::Steps::read_more_fields))]
 pub fn read_more_fields<'a>(found: Option<Spot<'a>>, x: &Token, s: Rest<'a>) -> Option<Spot<'a>>
     requires found { Spots found (steps.field_step s.tokens.now stands x.now) }
@@ -781,6 +828,7 @@ pub fn read_more_fields<'a>(found: Option<Spot<'a>>, x: &Token, s: Rest<'a>) -> 
 }
 
 /// The fields that begin with the token.
+#[inline(always)]
 #[tactic(auto, unfolding(gs_grammar::specs::Steps::fields_step, gs_grammar::specs::Steps::read_no_fields, gs_grammar::specs::Front::mark_at))]
 pub fn fields_by<'a>(found: Option<Spot<'a>>, x: &Token, s: Rest<'a>) -> Option<Cell>
     requires few { length s.tokens.now + 1 < 2 ^ 32 }
@@ -803,6 +851,7 @@ pub fn fields_by<'a>(found: Option<Spot<'a>>, x: &Token, s: Rest<'a>) -> Option<
 }
 
 /// The form `method` of the element of an interface.
+#[inline(always)]
 #[tactic(auto, unfolding(gs_grammar::specs::Steps::read_method))]
 pub fn read_method<'a>(x: &Token, s: Rest<'a>) -> Option<Spot<'a>>
     ensures { Spots result (steps.read_method s.entry.tokens.now stands x.now) }
@@ -813,6 +862,7 @@ pub fn read_method<'a>(x: &Token, s: Rest<'a>) -> Option<Spot<'a>>
 }
 
 /// The form `embedded_interface` of the element of an interface.
+#[inline(always)]
 #[tactic(auto, unfolding(gs_grammar::specs::Steps::read_embedded_interface))]
 pub fn read_embedded_interface<'a>(x: &Token, s: Rest<'a>) -> Option<Spot<'a>>
     ensures { Spots result (steps.read_embedded_interface s.entry.tokens.now stands x.now) }
@@ -828,6 +878,7 @@ pub fn read_embedded_interface<'a>(x: &Token, s: Rest<'a>) -> Option<Spot<'a>>
 }
 
 /// The form `qualified_interface` of the element of an interface.
+#[inline(always)]
 #[tactic(auto, unfolding(gs_grammar::specs::Steps::read_qualified_interface))]
 pub fn read_qualified_interface<'a>(x: &Token, s: Rest<'a>) -> Option<Spot<'a>>
     ensures { Spots result (steps.read_qualified_interface s.entry.tokens.now stands x.now) }
@@ -839,6 +890,7 @@ pub fn read_qualified_interface<'a>(x: &Token, s: Rest<'a>) -> Option<Spot<'a>>
 }
 
 /// The element of an interface that begins with the token.
+#[inline(always)]
 #[tactic(auto, unfolding(gs_grammar::specs::Steps::member_step))]
 pub fn member_by<'a>(x: &Token, s: Rest<'a>) -> Option<Spot<'a>>
     ensures { Spots result (steps.member_step s.entry.tokens.now stands x.now) }
@@ -855,6 +907,7 @@ pub fn member_by<'a>(x: &Token, s: Rest<'a>) -> Option<Spot<'a>>
 }
 
 /// The form `last_member` of the elements of an interface.
+#[inline(always)]
 #[tactic(auto, unfolding(gs_grammar::specs::Steps::read_last_member))]
 pub fn read_last_member<'a>(found: Option<Spot<'a>>, x: &Token, s: Rest<'a>) -> Option<Spot<'a>>
     requires found { Spots found (steps.member_step s.tokens.now stands x.now) }
@@ -869,6 +922,7 @@ pub fn read_last_member<'a>(found: Option<Spot<'a>>, x: &Token, s: Rest<'a>) -> 
 }
 
 /// The form `more_members` of the elements of an interface.
+#[inline(always)]
 #[tactic(auto, unfolding(gs_grammar::specs::Steps::read_more_members))]
 pub fn read_more_members<'a>(found: Option<Spot<'a>>, x: &Token, s: Rest<'a>) -> Option<Spot<'a>>
     requires found { Spots found (steps.member_step s.tokens.now stands x.now) }
@@ -884,6 +938,7 @@ pub fn read_more_members<'a>(found: Option<Spot<'a>>, x: &Token, s: Rest<'a>) ->
 }
 
 /// The elements of an interface that begins with the token.
+#[inline(always)]
 #[tactic(auto, unfolding(gs_grammar::specs::Steps::members_step, gs_grammar::specs::Steps::read_no_members, gs_grammar::specs::Front::mark_at))]
 pub fn members_by<'a>(found: Option<Spot<'a>>, x: &Token, s: Rest<'a>) -> Option<Cell>
     requires few { length s.tokens.now + 1 < 2 ^ 32 }
