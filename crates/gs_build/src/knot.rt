@@ -11,9 +11,10 @@ use gs_build_base::maker::Maker;
 use gs_build_base::pieces::{Piece, Stop};
 use gs_build_decls::chunks::chunk_tree;
 use gs_build_decls::decls::decl_tree;
+use gs_build_expr::elements::elements_tree;
 use gs_build_expr::exprs::{expr_tree, exprs_tree};
-use gs_build_expr::literals::{block_tree, elements_tree};
-use gs_build_expr::operands::{primary_tree, unary_tree};
+use gs_build_operands::literals::block_tree;
+use gs_build_operands::operands::{primary_tree, unary_tree};
 use gs_build_stmts::stmts::{stmt_tree, stmts_tree};
 use gs_build_types::params::{params_tree, signature_tree};
 use gs_build_types::types::type_tree;
@@ -278,11 +279,11 @@ fn tie_elements<'a, M: Maker>(alloc: Global, make: &M, s: Rest<'a>) -> Result<Pi
 
 /// The block of the place.
 #[inline(never)]
-fn tie_block<'a, M: Maker>(alloc: Global, make: &M, s: Rest<'a>) -> Result<Piece<'a, Made>, Stop>
+fn tie_block<'a, M: Maker>(make: &M, s: Rest<'a>) -> Result<Piece<'a, Made>, Stop>
     requires faithful { M.is_faithful make.now }
     ensures { Makes want.Block s.entry result }
 {
-    let Piece { tree, rest } = block_tree(alloc, make, s)?;
+    let Piece { tree, rest } = block_tree(make, s)?;
     Ok(Piece {
         tree: Made::Block(tree),
         rest,
@@ -367,7 +368,7 @@ fn tie<'a, F: for<'x> Fn(Want, Rest<'x>) -> Result<Piece<'x, Made>, Stop> + Drop
         Want::Primary(header) => tie_primary(alloc, &knot, header, s),
         Want::Exprs(header) => tie_exprs(alloc, &knot, header, s),
         Want::Elements => tie_elements(alloc, &knot, s),
-        Want::Block => tie_block(alloc, &knot, s),
+        Want::Block => tie_block(&knot, s),
         Want::Statements => tie_stmts(alloc, &knot, s),
         Want::Statement => tie_stmt(alloc, &knot, s),
         Want::Declaration => tie_decl(alloc, &knot, s),

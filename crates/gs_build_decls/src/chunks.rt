@@ -16,12 +16,13 @@ use gs_places::at::at_import_specs;
 use gs_places::classes::{is_decl_start, is_semi};
 use gs_places::front::{first_word, mark, semi};
 use gs_places::rest::Rest;
-use gs_rows::decls::{
-    decl_by, import_spec, read_a_body, read_declaration, read_function, read_import_decl,
-    read_package_clause, read_top_chunk, top_by,
+use gs_rows_decls::chunks::{
+    read_a_body, read_declaration, read_function, read_import_decl, read_package_clause,
+    read_top_chunk, top_by,
 };
+use gs_rows_decls::decls::{decl_by, import_spec};
 use gs_rows_expr::operands::block_by;
-use gs_rows_expr::types::{params, signature};
+use gs_rows_types::params::{params, signature};
 use gs_syntax::token::{Keyword, Operator, Token};
 use sqlite_items::Items;
 use std::alloc::{AllocError, Global};
@@ -39,7 +40,6 @@ fn alone<T: Drop>(alloc: Global, item: T) -> Result<Items<T>, AllocError>
 #[inline(never)]
 #[tactic(auto, unfolding(gs_grammar::specs::Reference::read_a_body))]
 fn build_a_body<'a, M: Maker>(
-    alloc: Global,
     make: &M,
     place: Rest<'a>,
     x: &'a Token,
@@ -58,18 +58,14 @@ fn build_a_body<'a, M: Maker>(
 
 /// The body of a function of the place.
 #[tactic(auto, using(gs_places::proofs::Laws::at_body, gs_places::proofs::Laws::end_body), unfolding(gs_grammar::specs::Reference::body_step, gs_grammar::specs::Reference::read_no_body, gs_grammar::specs::Front::front_at))]
-pub fn body_tree<'a, M: Maker>(
-    alloc: Global,
-    make: &M,
-    s: Rest<'a>,
-) -> Result<Piece<'a, Option<Block>>, Stop>
+pub fn body_tree<'a, M: Maker>(make: &M, s: Rest<'a>) -> Result<Piece<'a, Option<Block>>, Stop>
     requires faithful { M.is_faithful make.now }
     ensures { Builds result ((stands s.entry.tokens.now).body) }
 {
     let (x, rest) = s.next().ok_or(Stop::Absent)?;
     let found = block_by(x, rest);
     if read_a_body(found, x, rest).is_some() {
-        return build_a_body(alloc, make, s, x, rest);
+        return build_a_body(make, s, x, rest);
     }
     if is_semi(&x.kind) {
         Ok(Piece {
@@ -123,7 +119,7 @@ fn build_function<'a, M: Maker>(
     let f2 = signature(r1).ok_or(Stop::Absent)?;
     let name = copy(alloc, name)?;
     let z = make.make_signature(r1)?.tree;
-    let Piece { tree: o, rest: r3 } = body_tree(alloc, make, f2.rest)?;
+    let Piece { tree: o, rest: r3 } = body_tree(make, f2.rest)?;
     Ok(Piece {
         tree: Top::Function(p, name, z, o),
         rest: r3,
@@ -134,7 +130,6 @@ fn build_function<'a, M: Maker>(
 #[inline(never)]
 #[tactic(auto, unfolding(crate::specs::Tails::tail_of_method_decl))]
 fn build_method_decl_end<'a, M: Maker>(
-    alloc: Global,
     make: &M,
     s: Rest<'a>,
 ) -> Result<Piece<'a, (Signature, Option<Block>)>, Stop>
@@ -143,7 +138,7 @@ fn build_method_decl_end<'a, M: Maker>(
 {
     let f0 = signature(s).ok_or(Stop::Absent)?;
     let z = make.make_signature(s)?.tree;
-    let Piece { tree: o, rest: r1 } = body_tree(alloc, make, f0.rest)?;
+    let Piece { tree: o, rest: r1 } = body_tree(make, f0.rest)?;
     Ok(Piece {
         tree: (z, o),
         rest: r1,
@@ -176,7 +171,7 @@ fn build_method_decl<'a, M: Maker>(
     let Piece {
         tree: (z, o),
         rest: r5,
-    } = build_method_decl_end(alloc, make, r4)?;
+    } = build_method_decl_end(make, r4)?;
     Ok(Piece {
         tree: Top::Method(p, ps, name, z, o),
         rest: r5,

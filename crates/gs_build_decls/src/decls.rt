@@ -18,11 +18,11 @@ use gs_grammar::trees::{Decl, ImportSpec};
 use gs_places::at::{at_type_specs, at_var_specs};
 use gs_places::front::{is_mark, mark, semi};
 use gs_places::rest::Rest;
-use gs_rows::decls::{
-    const_group, import_spec_by, read_const_decl, read_const_group, read_dot_import,
-    read_last_import, read_more_imports, read_plain_import, read_type_decl, read_type_group,
-    read_var_decl,
+use gs_rows_decls::decls::{
+    import_spec_by, read_const_decl, read_const_group, read_dot_import, read_last_import,
+    read_more_imports, read_plain_import, read_type_decl, read_type_group, read_var_decl,
 };
+use gs_rows_decls::groups::const_group;
 use gs_syntax::token::{Keyword, Operator, Token};
 use sqlite_items::Items;
 use std::alloc::Global;

@@ -14,7 +14,7 @@ use gs_grammar::trees::{ConstSpec, TypeSpec, VarSpec};
 use gs_places::at::at_type;
 use gs_places::front::{is_mark, mark, semi, spec_end};
 use gs_places::rest::Rest;
-use gs_rows::decls::{
+use gs_rows_decls::groups::{
     const_spec_by, read_definition, read_implicit, read_last_const, read_last_type_spec,
     read_last_var, read_more_consts, read_more_type_specs, read_more_vars, read_typed_var,
     read_untyped, read_var_values, type_spec_by, var_spec_by,

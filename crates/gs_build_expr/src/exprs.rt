@@ -1,23 +1,34 @@
 //! Trees of expressions.
-ghost use Rattle.std.specs.Prelude.{◌≡◌, ◌∷◌, ◌≤◌, suc};
+ghost use Rattle.std.specs.Prelude.{◌≡◌, ◌≤◌, ◌∷◌, suc, IfOk};
+ghost use Rattle.gs_grammar.specs.Parts as spec;
 ghost use Rattle.gs_grammar.specs.Steps as steps;
 ghost use Rattle.gs_places.specs.Places.{stands};
 ghost use Rattle.gs_build_base.specs.Pieces.{Builds, Turns};
 
-use crate::operands::unary_from;
-use crate::parts::with_operands;
 use gs_build_base::copies::copy;
 use gs_build_base::here::expr_here;
 use gs_build_base::maker::Maker;
 use gs_build_base::pieces::{Piece, Stop, Turn};
+use gs_build_operands::operands::unary_from;
 use gs_grammar::trees::Expr;
 use gs_places::classes::is_binary;
 use gs_places::front::mark;
 use gs_places::rest::Rest;
 use gs_rows_expr::lists::{operand_by, read_one_expr};
 use gs_syntax::token::{Operator, Token};
-use sqlite_items::Items;
-use std::alloc::Global;
+use sqlite_items::{Boxed, Items};
+use std::alloc::{AllocError, Global};
+
+/// The operand with operators of one precedence and their right operands.
+fn with_operands(alloc: Global, t: Expr, os: Items<(Token, Expr)>) -> Result<Expr, AllocError>
+    ensures { IfOk result (λ e. e ≡ spec.binary t os) }
+{
+    if os.is_empty() {
+        Ok(t)
+    } else {
+        Ok(Expr::Binary(Boxed::new(alloc, t)?, os))
+    }
+}
 
 /// The expression with one more precedence of operators outside brackets.
 #[tactic(auto, unfolding(gs_grammar::specs::Steps::expr_step))]

@@ -1,8 +1,5 @@
 //! Trees of expressions, built by the table of places.
 #![tactic(auto)]
 
+pub mod elements;
 pub mod exprs;
-pub mod literals;
-pub mod operands;
-pub mod parts;
-pub mod suffixes;

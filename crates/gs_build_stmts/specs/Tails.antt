@@ -11,9 +11,6 @@ use Rattle.gs_grammar.specs.declared.trees.TypeClause.{TypeClause}
 use Rattle.gs_grammar.specs.Front.{◌>>=◌, mark_at}
 use Rattle.gs_places.specs.Places.{stands}
 
-unfoldable pub tail_of_header_arm : List Token → Option ((Expr × Block) × List Token)
-tail_of_header_arm s = (stands s).expr 5 true false >>= λ c. (stands c.rest).block >>= λ b. Some ((c.tree, b.tree), b.rest)
-
 unfoldable pub tail_of_header_type_switch : List Token → Option (((Option (Token × Span) × Expr × Span) × List TypeClause × Span) × List Token)
 tail_of_header_type_switch s = (stands s).guard >>= λ y. mark_at mark.LeftBrace y.rest >>= λ z3. (stands z3.1).type_clauses >>= λ cs. mark_at mark.RightBrace cs.rest >>= λ q. Some ((y.tree, cs.tree, q.0), q.1)
 

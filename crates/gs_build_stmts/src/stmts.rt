@@ -2,37 +2,27 @@
 ghost use Rattle.std.specs.Prelude.{◌≡◌, ◌∷◌};
 ghost use Rattle.gs_grammar.specs.Reference as reference;
 ghost use Rattle.gs_places.specs.Places.{stands};
-ghost use Rattle.gs_build_stmts.specs.Tails.{tail_of_header_switch, tail_of_header_type_switch, tail_of_loop, tail_of_range};
-ghost use Rattle.gs_build_base.specs.Pieces.{Builds, Gives, Turns};
+ghost use Rattle.gs_build_base.specs.Pieces.{Builds, Turns};
 
-use crate::arms::arms_tree;
-use crate::clauses::{clauses_tree, comm_clauses_tree, type_clauses_tree};
+use crate::blocks::{
+    build_block_stmt, build_endless, build_header_switch, build_header_type_switch, build_if_stmt,
+    build_loop, build_range, build_select, build_switch, build_type_switch, build_while,
+};
 use crate::here::stmt_here;
-use crate::parts::{
-    condition_tree, guard_tree, header_tree, post_tree, range_left_tree, tag_value_tree,
-    target_tree, values_tree,
-};
-use crate::simples::simple_from;
 use gs_build_base::copies::copy;
-use gs_build_base::front::{
-    first_mark_span, first_name_token, first_word_span, mark_span, name_token,
-};
+use gs_build_base::front::{first_name_token, first_word_span, name_token};
 use gs_build_base::here::{expr_here, exprs_here};
 use gs_build_base::maker::{Maker, decl_made};
 use gs_build_base::pieces::{Piece, Stop, Turn};
+use gs_build_clauses::parts::{target_tree, values_tree};
+use gs_build_clauses::simples::simple_from;
 use gs_build_pairs::boxes::token;
-use gs_build_pairs::pairs::{
-    expr_and_block, guard_and_clauses, header_and_condition, header_and_switch,
-    header_and_type_switch, left_and_range, loop_parts, name_and_stmt, post_and_block,
-    tag_and_clauses,
-};
-use gs_grammar::trees::{Block, Clause, Expr, Simple, Stmt, TypeClause};
-use gs_places::at::{at_clauses, at_comm_clauses, at_expr, at_stmts, at_type_clauses};
+use gs_build_pairs::pairs::name_and_stmt;
+use gs_grammar::trees::{Simple, Stmt};
 use gs_places::classes::{is_decl_start, is_list_end, is_semi};
 use gs_places::front::{first_label, mark, semi, stmt_end};
 use gs_places::rest::Rest;
-use gs_rows::decls::decl_by;
-use gs_rows::parts::{condition, guard, header, post, range_left, simple_by, tag_value};
+use gs_rows::simples::simple_by;
 use gs_rows::stmts::{
     read_bare_label, read_block_stmt, read_break, read_continue, read_declaration_stmt, read_defer,
     read_empty_stmt, read_endless, read_fallthrough, read_go, read_goto, read_header_switch,
@@ -40,7 +30,8 @@ use gs_rows::stmts::{
     read_more_stmts, read_range, read_return, read_select, read_simple_stmt, read_switch,
     read_type_switch,
 };
-use gs_syntax::token::{Keyword, Operator, Span, Token};
+use gs_rows_decls::decls::decl_by;
+use gs_syntax::token::{Keyword, Operator, Token};
 use sqlite_items::{Boxed, Items};
 use std::alloc::Global;
 
@@ -72,7 +63,6 @@ fn build_simple_stmt<'a, M: Maker>(
 #[inline(never)]
 #[tactic(auto, unfolding(gs_grammar::specs::Reference::read_declaration_stmt, gs_grammar::specs::Front::front_at))]
 fn build_declaration_stmt<'a, M: Maker>(
-    alloc: Global,
     make: &M,
     place: Rest<'a>,
     x: &'a Token,
@@ -146,12 +136,7 @@ fn build_labeled<'a, M: Maker>(
 /// The form `go` of the statement.
 #[inline(never)]
 #[tactic(auto, unfolding(gs_grammar::specs::Reference::read_go))]
-fn build_go<'a, M: Maker>(
-    alloc: Global,
-    make: &M,
-    x: &'a Token,
-    s: Rest<'a>,
-) -> Result<Piece<'a, Stmt>, Stop>
+fn build_go<'a, M: Maker>(make: &M, x: &'a Token, s: Rest<'a>) -> Result<Piece<'a, Stmt>, Stop>
     requires faithful { M.is_faithful make.now }
     ensures { Builds result (reference.read_go s.entry.tokens.now stands x.now) }
 {
@@ -166,12 +151,7 @@ fn build_go<'a, M: Maker>(
 /// The form `defer` of the statement.
 #[inline(never)]
 #[tactic(auto, unfolding(gs_grammar::specs::Reference::read_defer))]
-fn build_defer<'a, M: Maker>(
-    alloc: Global,
-    make: &M,
-    x: &'a Token,
-    s: Rest<'a>,
-) -> Result<Piece<'a, Stmt>, Stop>
+fn build_defer<'a, M: Maker>(make: &M, x: &'a Token, s: Rest<'a>) -> Result<Piece<'a, Stmt>, Stop>
     requires faithful { M.is_faithful make.now }
     ensures { Builds result (reference.read_defer s.entry.tokens.now stands x.now) }
 {
@@ -244,396 +224,13 @@ fn build_goto<'a>(alloc: Global, x: &'a Token, s: Rest<'a>) -> Result<Piece<'a, 
 
 /// The form `fallthrough` of the statement.
 #[tactic(auto, unfolding(gs_grammar::specs::Reference::read_fallthrough))]
-fn build_fallthrough<'a>(alloc: Global, x: &'a Token, s: Rest<'a>) -> Result<Piece<'a, Stmt>, Stop>
+fn build_fallthrough<'a>(x: &'a Token, s: Rest<'a>) -> Result<Piece<'a, Stmt>, Stop>
     ensures { Builds result (reference.read_fallthrough s.entry.tokens.now stands x.now) }
 {
     let (p, r0) = first_word_span(Keyword::Fallthrough, x, s).ok_or(Stop::Absent)?;
     Ok(Piece {
         tree: Stmt::Fallthrough(p),
         rest: r0,
-    })
-}
-
-/// The form `block_stmt` of the statement.
-#[inline(never)]
-#[tactic(auto, unfolding(gs_grammar::specs::Reference::read_block_stmt))]
-fn build_block_stmt<'a, M: Maker>(
-    alloc: Global,
-    make: &M,
-    x: &'a Token,
-    s: Rest<'a>,
-) -> Result<Piece<'a, Stmt>, Stop>
-    requires faithful { M.is_faithful make.now }
-    ensures { Builds result (reference.read_block_stmt s.entry.tokens.now stands x.now) }
-{
-    let (p, r0) = first_mark_span(Operator::LeftBrace, x, s).ok_or(Stop::Absent)?;
-    let f1 = at_stmts(r0).ok_or(Stop::Absent)?;
-    let (q, r2) = mark_span(Operator::RightBrace, f1.rest).ok_or(Stop::Absent)?;
-    let ts = make.make_stmts(r0)?.tree;
-    Ok(Piece {
-        tree: Stmt::Block(Block {
-            left: p,
-            statements: ts,
-            right: q,
-        }),
-        rest: r2,
-    })
-}
-
-/// The form `if_stmt` of the statement.
-#[inline(never)]
-#[tactic(auto, unfolding(gs_grammar::specs::Reference::read_if_stmt))]
-fn build_if_stmt<'a, M: Maker>(
-    alloc: Global,
-    make: &M,
-    x: &'a Token,
-    s: Rest<'a>,
-) -> Result<Piece<'a, Stmt>, Stop>
-    requires faithful { M.is_faithful make.now }
-    ensures { Builds result (reference.read_if_stmt s.entry.tokens.now stands x.now) }
-{
-    let (p, r0) = first_word_span(Keyword::If, x, s).ok_or(Stop::Absent)?;
-    let Piece {
-        tree: (a0, a1),
-        rest: r1,
-    } = arms_tree(alloc, make, r0)?;
-    Ok(Piece {
-        tree: Stmt::If(p, a0, a1),
-        rest: r1,
-    })
-}
-
-/// The end of the form `header_type_switch` of the statement.
-#[inline(never)]
-#[tactic(auto, unfolding(crate::specs::Tails::tail_of_header_type_switch))]
-fn build_header_type_switch_end<'a, M: Maker>(
-    alloc: Global,
-    make: &M,
-    s: Rest<'a>,
-) -> Result<Piece<'a, ((Option<(Token, Span)>, Expr, Span), Items<TypeClause>, Span)>, Stop>
-    requires faithful { M.is_faithful make.now }
-    ensures { Gives result (tail_of_header_type_switch s.entry.tokens.now) }
-{
-    let f0 = guard(s).ok_or(Stop::Absent)?;
-    let r1 = mark(Operator::LeftBrace, f0.rest).ok_or(Stop::Absent)?;
-    let f2 = at_type_clauses(r1).ok_or(Stop::Absent)?;
-    let (q, r3) = mark_span(Operator::RightBrace, f2.rest).ok_or(Stop::Absent)?;
-    let guarded = guard_tree(alloc, make, s);
-    let clauses = type_clauses_tree(alloc, make, r1);
-    let (y, cs) = guard_and_clauses(guarded, clauses)?.tree;
-    Ok(Piece {
-        tree: (y, cs, q),
-        rest: r3,
-    })
-}
-
-/// The form `header_type_switch` of the statement.
-#[inline(never)]
-#[tactic(auto, unfolding(gs_grammar::specs::Reference::read_header_type_switch, crate::specs::Tails::tail_of_header_type_switch))]
-fn build_header_type_switch<'a, M: Maker>(
-    alloc: Global,
-    make: &M,
-    x: &'a Token,
-    s: Rest<'a>,
-) -> Result<Piece<'a, Stmt>, Stop>
-    requires faithful { M.is_faithful make.now }
-    ensures { Builds result (reference.read_header_type_switch s.entry.tokens.now stands x.now) }
-{
-    let (p, r0) = first_word_span(Keyword::Switch, x, s).ok_or(Stop::Absent)?;
-    let f1 = header(r0).ok_or(Stop::Absent)?;
-    let init = header_tree(alloc, make, r0);
-    let end = build_header_type_switch_end(alloc, make, f1.rest);
-    let Piece {
-        tree: (i, ((y0, y1, y2), cs, q)),
-        rest: r2,
-    } = header_and_type_switch(init, end)?;
-    Ok(Piece {
-        tree: Stmt::TypeSwitch(p, i, y0, y1, y2, cs, q),
-        rest: r2,
-    })
-}
-
-/// The form `type_switch` of the statement.
-#[inline(never)]
-#[tactic(auto, unfolding(gs_grammar::specs::Reference::read_type_switch, crate::specs::Tails::tail_of_header_type_switch))]
-fn build_type_switch<'a, M: Maker>(
-    alloc: Global,
-    make: &M,
-    x: &'a Token,
-    s: Rest<'a>,
-) -> Result<Piece<'a, Stmt>, Stop>
-    requires faithful { M.is_faithful make.now }
-    ensures { Builds result (reference.read_type_switch s.entry.tokens.now stands x.now) }
-{
-    let (p, r0) = first_word_span(Keyword::Switch, x, s).ok_or(Stop::Absent)?;
-    if header(r0).is_some() {
-        return Err(Stop::Absent);
-    }
-    let Piece {
-        tree: ((y0, y1, y2), cs, q),
-        rest: r2,
-    } = build_header_type_switch_end(alloc, make, r0)?;
-    Ok(Piece {
-        tree: Stmt::TypeSwitch(p, Simple::Empty, y0, y1, y2, cs, q),
-        rest: r2,
-    })
-}
-
-/// The end of the form `header_switch` of the statement.
-#[inline(never)]
-#[tactic(auto, unfolding(crate::specs::Tails::tail_of_header_switch))]
-fn build_header_switch_end<'a, M: Maker>(
-    alloc: Global,
-    make: &M,
-    s: Rest<'a>,
-) -> Result<Piece<'a, (Option<Expr>, Items<Clause>, Span)>, Stop>
-    requires faithful { M.is_faithful make.now }
-    ensures { Gives result (tail_of_header_switch s.entry.tokens.now) }
-{
-    let f0 = tag_value(s).ok_or(Stop::Absent)?;
-    let r1 = mark(Operator::LeftBrace, f0.rest).ok_or(Stop::Absent)?;
-    let f2 = at_clauses(r1).ok_or(Stop::Absent)?;
-    let (q, r3) = mark_span(Operator::RightBrace, f2.rest).ok_or(Stop::Absent)?;
-    let tag = tag_value_tree(alloc, make, s);
-    let clauses = clauses_tree(alloc, make, r1);
-    let (o, cs) = tag_and_clauses(tag, clauses)?.tree;
-    Ok(Piece {
-        tree: (o, cs, q),
-        rest: r3,
-    })
-}
-
-/// The form `header_switch` of the statement.
-#[inline(never)]
-#[tactic(auto, unfolding(gs_grammar::specs::Reference::read_header_switch, crate::specs::Tails::tail_of_header_switch))]
-fn build_header_switch<'a, M: Maker>(
-    alloc: Global,
-    make: &M,
-    x: &'a Token,
-    s: Rest<'a>,
-) -> Result<Piece<'a, Stmt>, Stop>
-    requires faithful { M.is_faithful make.now }
-    ensures { Builds result (reference.read_header_switch s.entry.tokens.now stands x.now) }
-{
-    let (p, r0) = first_word_span(Keyword::Switch, x, s).ok_or(Stop::Absent)?;
-    let f1 = header(r0).ok_or(Stop::Absent)?;
-    if guard(f1.rest).is_some() {
-        return Err(Stop::Absent);
-    }
-    let init = header_tree(alloc, make, r0);
-    let end = build_header_switch_end(alloc, make, f1.rest);
-    let Piece {
-        tree: (i, (o, cs, q)),
-        rest: r3,
-    } = header_and_switch(init, end)?;
-    Ok(Piece {
-        tree: Stmt::Switch(p, i, o, cs, q),
-        rest: r3,
-    })
-}
-
-/// The form `switch` of the statement.
-#[inline(never)]
-#[tactic(auto, unfolding(gs_grammar::specs::Reference::read_switch, crate::specs::Tails::tail_of_header_switch))]
-fn build_switch<'a, M: Maker>(
-    alloc: Global,
-    make: &M,
-    x: &'a Token,
-    s: Rest<'a>,
-) -> Result<Piece<'a, Stmt>, Stop>
-    requires faithful { M.is_faithful make.now }
-    ensures { Builds result (reference.read_switch s.entry.tokens.now stands x.now) }
-{
-    let (p, r0) = first_word_span(Keyword::Switch, x, s).ok_or(Stop::Absent)?;
-    if header(r0).is_some() {
-        return Err(Stop::Absent);
-    }
-    if guard(r0).is_some() {
-        return Err(Stop::Absent);
-    }
-    let Piece {
-        tree: (o, cs, q),
-        rest: r3,
-    } = build_header_switch_end(alloc, make, r0)?;
-    Ok(Piece {
-        tree: Stmt::Switch(p, Simple::Empty, o, cs, q),
-        rest: r3,
-    })
-}
-
-/// The form `select` of the statement.
-#[inline(never)]
-#[tactic(auto, unfolding(gs_grammar::specs::Reference::read_select))]
-fn build_select<'a, M: Maker>(
-    alloc: Global,
-    make: &M,
-    x: &'a Token,
-    s: Rest<'a>,
-) -> Result<Piece<'a, Stmt>, Stop>
-    requires faithful { M.is_faithful make.now }
-    ensures { Builds result (reference.read_select s.entry.tokens.now stands x.now) }
-{
-    let (p, r0) = first_word_span(Keyword::Select, x, s).ok_or(Stop::Absent)?;
-    let r1 = mark(Operator::LeftBrace, r0).ok_or(Stop::Absent)?;
-    let f2 = at_comm_clauses(r1).ok_or(Stop::Absent)?;
-    let (q, r3) = mark_span(Operator::RightBrace, f2.rest).ok_or(Stop::Absent)?;
-    let cs = comm_clauses_tree(alloc, make, r1)?.tree;
-    Ok(Piece {
-        tree: Stmt::Select(p, cs, q),
-        rest: r3,
-    })
-}
-
-/// The form `endless` of the statement.
-#[inline(never)]
-#[tactic(auto, unfolding(gs_grammar::specs::Reference::read_endless))]
-fn build_endless<'a, M: Maker>(
-    alloc: Global,
-    make: &M,
-    x: &'a Token,
-    s: Rest<'a>,
-) -> Result<Piece<'a, Stmt>, Stop>
-    requires faithful { M.is_faithful make.now }
-    ensures { Builds result (reference.read_endless s.entry.tokens.now stands x.now) }
-{
-    let (p, r0) = first_word_span(Keyword::For, x, s).ok_or(Stop::Absent)?;
-    if mark(Operator::LeftBrace, r0).is_none() {
-        return Err(Stop::Absent);
-    }
-    let Piece { tree: b, rest: r2 } = make.make_block(r0)?;
-    Ok(Piece {
-        tree: Stmt::While(p, None, b),
-        rest: r2,
-    })
-}
-
-/// The end of the form `range` of the statement.
-#[inline(never)]
-#[tactic(auto, unfolding(crate::specs::Tails::tail_of_range))]
-fn build_range_end<'a, M: Maker>(
-    alloc: Global,
-    make: &M,
-    s: Rest<'a>,
-) -> Result<Piece<'a, (Expr, Block)>, Stop>
-    requires faithful { M.is_faithful make.now }
-    ensures { Gives result (tail_of_range s.entry.tokens.now) }
-{
-    let f0 = at_expr(5, true, s).ok_or(Stop::Absent)?;
-    expr_and_block(make.make_expr(5, true, false, s), make.make_block(f0.rest))
-}
-
-/// The form `range` of the statement.
-#[inline(never)]
-#[tactic(auto, unfolding(gs_grammar::specs::Reference::read_range, crate::specs::Tails::tail_of_range))]
-fn build_range<'a, M: Maker>(
-    alloc: Global,
-    make: &M,
-    x: &'a Token,
-    s: Rest<'a>,
-) -> Result<Piece<'a, Stmt>, Stop>
-    requires faithful { M.is_faithful make.now }
-    ensures { Builds result (reference.read_range s.entry.tokens.now stands x.now) }
-{
-    let (p, r0) = first_word_span(Keyword::For, x, s).ok_or(Stop::Absent)?;
-    if mark(Operator::LeftBrace, r0).is_some() {
-        return Err(Stop::Absent);
-    }
-    let f2 = range_left(r0).ok_or(Stop::Absent)?;
-    let left = range_left_tree(alloc, make, r0);
-    let end = build_range_end(alloc, make, f2.rest);
-    let Piece {
-        tree: (item, (t, b)),
-        rest: r3,
-    } = left_and_range(left, end)?;
-    Ok(Piece {
-        tree: Stmt::Range(p, item, t, b),
-        rest: r3,
-    })
-}
-
-/// The end of the form `loop` of the statement.
-#[inline(never)]
-#[tactic(auto, unfolding(crate::specs::Tails::tail_of_loop))]
-fn build_loop_end<'a, M: Maker>(
-    alloc: Global,
-    make: &M,
-    s: Rest<'a>,
-) -> Result<Piece<'a, (Simple, Block)>, Stop>
-    requires faithful { M.is_faithful make.now }
-    ensures { Gives result (tail_of_loop s.entry.tokens.now) }
-{
-    let f0 = post(s).ok_or(Stop::Absent)?;
-    post_and_block(post_tree(alloc, make, s), make.make_block(f0.rest))
-}
-
-/// The form `loop` of the statement.
-#[inline(never)]
-#[tactic(auto, unfolding(gs_grammar::specs::Reference::read_loop, crate::specs::Tails::tail_of_loop))]
-fn build_loop<'a, M: Maker>(
-    alloc: Global,
-    make: &M,
-    x: &'a Token,
-    s: Rest<'a>,
-) -> Result<Piece<'a, Stmt>, Stop>
-    requires faithful { M.is_faithful make.now }
-    ensures { Builds result (reference.read_loop s.entry.tokens.now stands x.now) }
-{
-    let (p, r0) = first_word_span(Keyword::For, x, s).ok_or(Stop::Absent)?;
-    if mark(Operator::LeftBrace, r0).is_some() {
-        return Err(Stop::Absent);
-    }
-    if range_left(r0).is_some() {
-        return Err(Stop::Absent);
-    }
-    let f3 = header(r0).ok_or(Stop::Absent)?;
-    let f4 = condition(f3.rest).ok_or(Stop::Absent)?;
-    let r5 = semi(f4.rest).ok_or(Stop::Absent)?;
-    let init = header_tree(alloc, make, r0);
-    let test = condition_tree(alloc, make, f3.rest);
-    let start = header_and_condition(init, test);
-    let end = build_loop_end(alloc, make, r5);
-    let Piece {
-        tree: ((i, o), (j, b)),
-        rest: r6,
-    } = loop_parts(start, end)?;
-    Ok(Piece {
-        tree: Stmt::Loop(p, i, o, j, b),
-        rest: r6,
-    })
-}
-
-/// The form `while` of the statement.
-#[inline(never)]
-#[tactic(auto, unfolding(gs_grammar::specs::Reference::read_while))]
-fn build_while<'a, M: Maker>(
-    alloc: Global,
-    make: &M,
-    x: &'a Token,
-    s: Rest<'a>,
-) -> Result<Piece<'a, Stmt>, Stop>
-    requires faithful { M.is_faithful make.now }
-    ensures { Builds result (reference.read_while s.entry.tokens.now stands x.now) }
-{
-    let (p, r0) = first_word_span(Keyword::For, x, s).ok_or(Stop::Absent)?;
-    if mark(Operator::LeftBrace, r0).is_some() {
-        return Err(Stop::Absent);
-    }
-    if range_left(r0).is_some() {
-        return Err(Stop::Absent);
-    }
-    if header(r0).is_some() {
-        return Err(Stop::Absent);
-    }
-    let f4 = at_expr(5, true, r0).ok_or(Stop::Absent)?;
-    let test = make.make_expr(5, true, false, r0);
-    let body = make.make_block(f4.rest);
-    let Piece {
-        tree: (t, b),
-        rest: r5,
-    } = expr_and_block(test, body)?;
-    Ok(Piece {
-        tree: Stmt::While(p, Some(t), b),
-        rest: r5,
     })
 }
 
@@ -662,7 +259,7 @@ pub fn stmt_from<'a, M: Maker>(
         return build_simple_stmt(alloc, make, place, x, s);
     }
     if read_declaration_stmt(decl, x, s).is_some() {
-        return build_declaration_stmt(alloc, make, place, x, s);
+        return build_declaration_stmt(make, place, x, s);
     }
     if read_bare_label(x, s).is_some() {
         return build_bare_label(alloc, x, s);
@@ -671,10 +268,10 @@ pub fn stmt_from<'a, M: Maker>(
         return build_labeled(alloc, make, x, s);
     }
     if read_go(x, s).is_some() {
-        return build_go(alloc, make, x, s);
+        return build_go(make, x, s);
     }
     if read_defer(x, s).is_some() {
-        return build_defer(alloc, make, x, s);
+        return build_defer(make, x, s);
     }
     if read_return(x, s).is_some() {
         return build_return(alloc, make, x, s);
@@ -689,10 +286,10 @@ pub fn stmt_from<'a, M: Maker>(
         return build_goto(alloc, x, s);
     }
     if read_fallthrough(x, s).is_some() {
-        return build_fallthrough(alloc, x, s);
+        return build_fallthrough(x, s);
     }
     if read_block_stmt(x, s).is_some() {
-        return build_block_stmt(alloc, make, x, s);
+        return build_block_stmt(make, x, s);
     }
     if read_if_stmt(x, s).is_some() {
         return build_if_stmt(alloc, make, x, s);
@@ -713,15 +310,15 @@ pub fn stmt_from<'a, M: Maker>(
         return build_select(alloc, make, x, s);
     }
     if read_endless(x, s).is_some() {
-        return build_endless(alloc, make, x, s);
+        return build_endless(make, x, s);
     }
     if read_range(x, s).is_some() {
-        return build_range(alloc, make, x, s);
+        return build_range(make, x, s);
     }
     if read_loop(x, s).is_some() {
         return build_loop(alloc, make, x, s);
     }
-    build_while(alloc, make, x, s)
+    build_while(make, x, s)
 }
 
 /// The statement of the place.
@@ -782,7 +379,7 @@ fn turn_more_stmts<'a, M: Maker>(
 
 /// The form `empty_stmt` of the statements.
 #[tactic(auto, unfolding(gs_grammar::specs::Reference::read_empty_stmt, gs_grammar::specs::Front::front_at, gs_build_base::specs::Pieces::joined))]
-fn turn_empty_stmt<'a>(alloc: Global, x: &'a Token, s: Rest<'a>) -> Result<Turn<'a, Stmt>, Stop>
+fn turn_empty_stmt<'a>(x: &'a Token, s: Rest<'a>) -> Result<Turn<'a, Stmt>, Stop>
     ensures { Turns (λ r. (stands r).stmts) result (reference.read_empty_stmt s.entry.tokens.now stands x.now) }
 {
     if !is_semi(&x.kind) {
@@ -806,7 +403,7 @@ fn stmts_turn<'a, M: Maker>(alloc: Global, make: &M, s: Rest<'a>) -> Result<Turn
         return turn_more_stmts(alloc, make, s, x, rest);
     }
     if read_empty_stmt(x, rest).is_some() {
-        return turn_empty_stmt(alloc, x, rest);
+        return turn_empty_stmt(x, rest);
     }
     if is_list_end(&x.kind) {
         Ok(Turn::End(s))

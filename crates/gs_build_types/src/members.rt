@@ -15,11 +15,12 @@ use gs_grammar::trees::{Field, Member, TypeExpr};
 use gs_places::at::at_type;
 use gs_places::front::{embed_end, is_mark, mark, selector, semi};
 use gs_places::rest::Rest;
-use gs_rows_expr::types::{
+use gs_rows_types::members::{
     field_by, member_by, read_embedded_field, read_embedded_interface, read_last_field,
     read_last_member, read_method, read_more_fields, read_more_members, read_named_field,
-    read_qualified_field, type_name,
+    read_qualified_field,
 };
+use gs_rows_types::types::type_name;
 use gs_syntax::token::{Operator, Token};
 use sqlite_items::{Boxed, Items};
 use std::alloc::Global;

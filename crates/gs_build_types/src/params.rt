@@ -14,7 +14,7 @@ use gs_grammar::trees::{Parameter, Parameters, Signature};
 use gs_places::at::{at_named_params, at_type, at_unnamed};
 use gs_places::front::{mark, trail};
 use gs_places::rest::Rest;
-use gs_rows_expr::types::{
+use gs_rows_types::params::{
     params_by, read_last_named, read_last_named_dots, read_last_type, read_more_types,
     read_named_list, read_no_params, read_result, read_results,
 };
@@ -26,7 +26,6 @@ use std::alloc::Global;
 #[inline(never)]
 #[tactic(auto, unfolding(gs_grammar::specs::Steps::read_last_type, gs_build_base::specs::Pieces::joined))]
 fn turn_last_type<'a, M: Maker>(
-    alloc: Global,
     make: &M,
     dots: bool,
     place: Rest<'a>,
@@ -47,7 +46,6 @@ fn turn_last_type<'a, M: Maker>(
 #[inline(never)]
 #[tactic(auto, unfolding(gs_grammar::specs::Steps::read_more_types, gs_build_base::specs::Pieces::joined))]
 fn turn_more_types<'a, M: Maker>(
-    alloc: Global,
     make: &M,
     dots: bool,
     place: Rest<'a>,
@@ -71,7 +69,6 @@ fn turn_more_types<'a, M: Maker>(
 #[inline(never)]
 #[tactic(auto, unfolding(gs_grammar::specs::Steps::read_last_dots, gs_build_base::specs::Pieces::joined))]
 fn turn_last_dots<'a, M: Maker>(
-    alloc: Global,
     make: &M,
     dots: bool,
     x: &'a Token,
@@ -93,7 +90,6 @@ fn turn_last_dots<'a, M: Maker>(
 /// What the parameters without names have at the place.
 #[tactic(auto, using(gs_places::proofs::Laws::at_unnamed, gs_places::proofs::Laws::end_unnamed), unfolding(gs_grammar::specs::Steps::unnamed_step))]
 fn unnamed_turn<'a, M: Maker>(
-    alloc: Global,
     make: &M,
     dots: bool,
     s: Rest<'a>,
@@ -104,12 +100,12 @@ fn unnamed_turn<'a, M: Maker>(
     let (x, rest) = s.next().ok_or(Stop::Absent)?;
     let found_type = type_here(s, x, rest);
     if read_last_type(dots, found_type, x, rest).is_some() {
-        return turn_last_type(alloc, make, dots, s, x, rest);
+        return turn_last_type(make, dots, s, x, rest);
     }
     if read_more_types(dots, found_type, x, rest).is_some() {
-        return turn_more_types(alloc, make, dots, s, x, rest);
+        return turn_more_types(make, dots, s, x, rest);
     }
-    turn_last_dots(alloc, make, dots, x, rest)
+    turn_last_dots(make, dots, x, rest)
 }
 
 /// The parameters without names of the place. There are at most as many as tokens.
@@ -126,7 +122,7 @@ pub fn unnamed_tree<'a, M: Maker>(
     let mut found = Items::new(alloc);
     let mut rest = s;
     'turns: while found.len() <= s.tokens.len() {
-        match unnamed_turn(alloc, make, dots, rest) {
+        match unnamed_turn(make, dots, rest) {
             Ok(Turn::More(item, more)) => {
                 found.push(item)?;
                 rest = more;

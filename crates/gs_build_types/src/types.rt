@@ -16,7 +16,7 @@ use gs_grammar::trees::TypeExpr;
 use gs_places::at::{at_expr, at_fields, at_members, at_type};
 use gs_places::front::{mark, word};
 use gs_places::rest::Rest;
-use gs_rows_expr::types::{
+use gs_rows_types::types::{
     read_array, read_channel, read_function_type, read_map_type, read_named, read_paren_type,
     read_pointer, read_receive_channel, read_send_channel, read_slice, read_struct_type,
     type_name_by,

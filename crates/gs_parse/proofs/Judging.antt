@@ -11,10 +11,8 @@ use Rattle.gs_grammar.specs.declared.trees.FileTree.{FileTree}
 use Rattle.gs_parse.specs.declared.stage.Stage.{Stage}
 use Rattle.gs_parse.specs.declared.stage.Stage.TheVariants.{Clause}
 use Rattle.gs_parse.specs.declared.judge.Draft.{Draft}
-use Rattle.gs_parse.specs.declared.judge.Wanted.{Wanted}
-use Rattle.gs_parse.specs.declared.judge.Wanted.TheVariants.{Faults, Trees}
 use Rattle.gs_parse.specs.Docs.{docs_at, starts}
-use Rattle.gs_parse.specs.Drafts.{HasJudged, HasVerdicts, IsAlone, kept_for, starts_for}
+use Rattle.gs_parse.specs.Drafts.{Wanted, Faults, Trees, HasJudged, HasVerdicts, IsAlone, kept_for, starts_for}
 use Rattle.gs_scan.specs.Comments.{AreComments}
 use Rattle.gs_parse.specs.Files.{IsRead, IsFileTree, HasFaults, judged, most_bytes, starts_of}
 use Rattle.gs_parse.specs.Verdicts.{Fault, Verdict, Kept, Dropped, AreVerdicts, at_first, faults_of, kept_of, part_of, parts_of}

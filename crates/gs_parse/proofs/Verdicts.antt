@@ -6,10 +6,8 @@ use Rattle.gs_grammar.specs.declared.trees.Chunk.{Chunk}
 use Rattle.gs_parse_expr.specs.Answer.{IsTree, IsTooDeep, Lacks}
 use Rattle.gs_parse.specs.declared.stage.Stage.{Stage}
 use Rattle.gs_parse.specs.declared.judge.Draft.{Draft}
-use Rattle.gs_parse.specs.declared.judge.Wanted.{Wanted}
-use Rattle.gs_parse.specs.declared.judge.Wanted.TheVariants.{Faults, Trees}
 use Rattle.gs_parse.specs.Docs.{starts}
-use Rattle.gs_parse.specs.Drafts.{HasAdded, HasJudged, StandsFor, kept_for, starts_for, starts_with_tree, tree_for, trees_of}
+use Rattle.gs_parse.specs.Drafts.{Wanted, Faults, Trees, HasAdded, HasJudged, StandsFor, kept_for, starts_for, starts_with_tree, tree_for, trees_of}
 use Rattle.gs_parse.specs.Verdicts.{Fault, Kept, Dropped, IsDropped, at_first, bad_tokens, behind, first_class, may_stand, passed, takes, bad, misplaced}
 use Rattle.gs_parse.proofs.Classes.{class_first}
 
@@ -107,6 +105,15 @@ none_starts Trees ts faults = refl
 same_items : {A : Type 0} (old new more : List A) → new ≡ old → more ≡ [] → new ≡ old ++ more
 same_items old new more same none = same ∙ sym (append-nil old) ∙ ap (λ l. old ++ l) (sym none)
 
+pub dropped_added : (wanted : Wanted) (old new : Draft) (stage next : Stage) (ts : List Token) (faults : List Fault) → new.chunks.items ≡ old.chunks.items → new.starts.items ≡ old.starts.items →
+    new.faults.items ≡ old.faults.items ++ faults → next ≡ passed stage → HasAdded wanted old new stage next ts (Dropped faults)
+dropped_added wanted old new stage next ts faults chunks_same starts_same e n = record {
+  chunks = same_items old.chunks.items new.chunks.items (kept_for wanted (Dropped faults ∷ [])) chunks_same (none_kept wanted faults);
+  starts = same_items old.starts.items new.starts.items (starts_for wanted (ts ∷ []) (Dropped faults ∷ [])) starts_same (none_starts wanted ts faults);
+  faults = e ∙ sym (ap (λ l. old.faults.items ++ l) (append-nil faults));
+  stages = n;
+}
+
 some_bad : (ts : List Token) (xs ys : List Fault) → ys ≡ xs ++ bad_tokens ts → length xs < length ys → bad_tokens ts ≢ []
 some_bad ts xs ys e more none = let size = ap length e ∙ length-append xs (bad_tokens ts) in let small = ap length none in omega (arith, size, small)
 
@@ -115,10 +122,5 @@ pub bad_judged : (wanted : Wanted) (old new : Draft) (stage next : Stage) (ts : 
 bad_judged wanted old new stage next ts chunks_same starts_same e more n = record {
   verdict = Dropped (bad_tokens ts);
   right = bad (some_bad ts old.faults.items new.faults.items e more);
-  added = record {
-    chunks = same_items old.chunks.items new.chunks.items (kept_for wanted (Dropped (bad_tokens ts) ∷ [])) chunks_same (none_kept wanted (bad_tokens ts));
-    starts = same_items old.starts.items new.starts.items (starts_for wanted (ts ∷ []) (Dropped (bad_tokens ts) ∷ [])) starts_same (none_starts wanted ts (bad_tokens ts));
-    faults = e ∙ sym (ap (λ l. old.faults.items ++ l) (append-nil (bad_tokens ts)));
-    stages = n;
-  };
+  added = dropped_added wanted old new stage next ts (bad_tokens ts) chunks_same starts_same e n;
 }

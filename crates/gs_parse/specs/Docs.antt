@@ -6,8 +6,8 @@ use Rattle.gs_syntax.specs.declared.token.Operator.TheVariants as mark
 use Rattle.gs_syntax.specs.declared.token.Token.{Token}
 use Rattle.gs_syntax.specs.declared.token.TokenKind.{TokenKind}
 use Rattle.gs_syntax.specs.declared.token.TokenKind.TheVariants as kind
-use Rattle.gs_syntax.specs.Chunks.{is_semicolon}
 use Rattle.gs_syntax.specs.Tokens.{mark_size}
+use Rattle.gs_grammar.specs.Front.{is_mark, is_semi}
 
 -- ---- Where a chunk, its declarations and their specs begin
 
@@ -18,14 +18,6 @@ is_grouping (kind.Keyword word.Const) = true
 is_grouping (kind.Keyword word.«Type») = true
 is_grouping (kind.Keyword word.Var) = true
 is_grouping _ = false
-
-abbrev pub is_left_paren : TokenKind → Bool
-is_left_paren (kind.Operator mark.LeftParen) = true
-is_left_paren _ = false
-
-abbrev pub is_right_paren : TokenKind → Bool
-is_right_paren (kind.Operator mark.RightParen) = true
-is_right_paren _ = false
 
 -- which brackets stand open behind a token, innermost first, each by whether it is the parenthesis of a group: one
 -- directly behind a keyword
@@ -47,12 +39,12 @@ in_group (g ∷ gs) = g
 abbrev pub begins_declaration : TokenKind → TokenKind → Bool
 begins_declaration before (kind.Keyword word.Const) = true
 begins_declaration before (kind.Keyword word.Var) = true
-begins_declaration before (kind.Keyword word.«Type») = not (is_left_paren before)
+begins_declaration before (kind.Keyword word.«Type») = not (is_mark mark.LeftParen before)
 begins_declaration before _ = false
 
 -- a spec of a group begins behind the parenthesis that opens the group, or behind a semicolon in it
 abbrev pub begins_spec : TokenKind → List Bool → TokenKind → Bool
-begins_spec before opened k = in_group opened && ((is_left_paren before || is_semicolon before) && not (is_right_paren k))
+begins_spec before opened k = in_group opened && ((is_mark mark.LeftParen before || is_semi before) && not (is_mark mark.RightParen k))
 
 -- the offsets at which declarations and specs begin, from the tokens of a chunk behind the token `before`
 abbrev pub starts_from : TokenKind → List Bool → List Token → List ℕ

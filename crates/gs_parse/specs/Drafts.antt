@@ -5,13 +5,16 @@ use Rattle.gs_grammar.specs.Grammar.{IsChunkAt}
 use Rattle.gs_grammar.specs.declared.trees.Chunk.{Chunk}
 use Rattle.gs_grammar.specs.declared.trees.FileTree.{FileTree}
 use Rattle.gs_parse.specs.declared.judge.Draft.{Draft}
-use Rattle.gs_parse.specs.declared.judge.Wanted.{Wanted}
-use Rattle.gs_parse.specs.declared.judge.Wanted.TheVariants.{Faults, Trees}
 use Rattle.gs_parse.specs.declared.stage.Stage.{Stage}
 use Rattle.gs_parse.specs.declared.stage.Stage.TheVariants.{Clause}
 use Rattle.gs_parse.specs.Docs.{starts}
 use Rattle.gs_parse.specs.Files.{starts_of}
 use Rattle.gs_parse.specs.Verdicts.{Verdict, IsVerdict, AreVerdicts, after, at_first, faults_of, kept_of}
+
+-- what is wanted of the chunks: their faults alone, or their trees too
+pub data Wanted : Type 0 where
+  Faults : Wanted
+  Trees : Wanted
 
 -- what is there of a tree
 abbrev pub tree_for : Wanted → Chunk → Option Chunk

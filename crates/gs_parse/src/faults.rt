@@ -4,8 +4,9 @@ ghost use Rattle.std.specs.Prelude.{[], ◌≡◌, ◌≤◌, length, IfOk};
 ghost use Rattle.gs_parse.specs.Files.{HasFaults, most_bytes};
 ghost use Rattle.gs_parse.specs.Verdicts as spec;
 
-use crate::judge::{Wanted, at_first, judge_chunks};
+use crate::judge::{at_first, judge_chunks};
 use crate::laws::few_tokens;
+use crate::look::Faults;
 use crate::text::text_of;
 use gs_base::Mem;
 use gs_scan::laws::some_comments;
@@ -34,7 +35,7 @@ fn text_faults(alloc: Global, text: &str) -> Mem<Vec<(u16, Span)>>
     if tokens.is_empty() {
         return fault_alone(alloc, 1);
     }
-    let draft = judge_chunks(alloc, Wanted::Faults, tokens)?;
+    let draft = judge_chunks::<Faults>(alloc, tokens)?;
     Ok(draft.faults)
 }
 

@@ -1,30 +1,22 @@
 //! What is said of each chunk.
 
 ghost use Rattle.std.specs.Prelude.{◌≡◌, ◌<◌, ◌^◌, ◌++◌, ◌∷◌, [], length, IfOk, OnOk};
-ghost use Rattle.gs_parse_expr.specs.Answer.{IsParsed};
 ghost use Rattle.gs_syntax.specs.Chunks.{chunks_of};
-ghost use Rattle.gs_parse.specs.Drafts.{HasAdded, HasJudged, HasVerdicts, StandsFor, starts_with_tree, trees_of};
+ghost use Rattle.gs_parse.specs.Drafts.{HasAdded, HasJudged, HasVerdicts, Wanted, starts_with_tree, trees_of};
 ghost use Rattle.gs_parse.specs.Verdicts as spec;
 ghost use Rattle.gs_parse.specs.Verdicts.{Dropped, parts_of};
 
+use crate::look::Look;
 use crate::part::part;
 use crate::stage::{Stage, first_class};
 use crate::starts::put_starts;
 use gs_base::{Mem, NoMemory};
 use gs_grammar::laws::one_chunk;
 use gs_grammar::trees::Chunk;
-use gs_parse_expr::at::{Parsed, chunk_at};
-use gs_parse_expr::end::{End, chunk_end};
+use gs_parse_expr::at::Parsed;
 use gs_scan::chunk::chunks;
 use gs_syntax::token::{Span, Token, TokenKind};
 use std::alloc::{AllocError, Global};
-
-/// What is wanted of the chunks: their faults alone, or their trees too.
-#[derive(Clone, Copy, Debug, PartialEq, Eq)]
-pub enum Wanted {
-    Faults,
-    Trees,
-}
 
 /// What is said of the chunks so far.
 #[derive(Drop)]
@@ -82,36 +74,9 @@ fn put_bad_tokens(faults: &mut Vec<(u16, Span)>, tokens: &[Token]) -> Result<(),
     Ok(())
 }
 
-/// What stands at the front of a chunk, and where it ends; its tree, where trees are wanted.
-fn look(alloc: Global, wanted: Wanted, tokens: &[Token]) -> Parsed<Option<Chunk>>
-    requires { length tokens.now < 2 ^ 32 }
-    ensures { IsParsed (StandsFor wanted) tokens.now 0 result }
-{
-    match wanted {
-        Wanted::Faults => match chunk_end(alloc, tokens, 0) {
-            End::At(end) => Parsed::Tree(None, end),
-            End::None => Parsed::None,
-            End::TooDeep => Parsed::TooDeep,
-            End::NoMemory => Parsed::NoMemory,
-        },
-        Wanted::Trees => match chunk_at(alloc, tokens, 0) {
-            Parsed::Tree(tree, end) => Parsed::Tree(Some(tree), end),
-            Parsed::None => Parsed::None,
-            Parsed::TooDeep => Parsed::TooDeep,
-            Parsed::NoMemory => Parsed::NoMemory,
-        },
-    }
-}
-
 /// Drops a chunk for a fault at its first token.
-fn drop_chunk(
-    draft: &mut Draft,
-    wanted: Wanted,
-    stage: Stage,
-    code: u16,
-    tokens: &[Token],
-) -> Mem<Stage>
-    ensures { IfOk result (λ next. HasAdded wanted draft.old draft.new stage next tokens.now (Dropped (spec.at_first code tokens.now))) }
+fn drop_chunk(draft: &mut Draft, stage: Stage, code: u16, tokens: &[Token]) -> Mem<Stage>
+    ensures { IfOk result (λ next. (wanted : Wanted) → HasAdded wanted draft.old draft.new stage next tokens.now (Dropped (spec.at_first code tokens.now))) }
 {
     put(&mut draft.faults, at_first(code, tokens))?;
     Ok(stage.passed())
@@ -136,22 +101,21 @@ fn keep_chunk(
 }
 
 /// Judges a chunk without bad tokens.
-fn judge_tree(
+fn judge_tree<L: Look>(
     alloc: Global,
     draft: &mut Draft,
-    wanted: Wanted,
     stage: Stage,
     tokens: &[Token],
 ) -> Mem<Stage>
     requires few { length tokens.now < 2 ^ 32 }
     requires good { spec.bad_tokens tokens.now ≡ [] }
-    ensures { IfOk result (HasJudged wanted draft.old draft.new stage tokens.now) }
+    ensures { IfOk result (HasJudged L.wanted draft.old draft.new stage tokens.now) }
 {
     one_chunk();
-    match look(alloc, wanted, tokens) {
+    match L::look(alloc, tokens) {
         Parsed::NoMemory => Err(NoMemory),
-        Parsed::TooDeep => drop_chunk(draft, wanted, stage, 4, tokens),
-        Parsed::None => drop_chunk(draft, wanted, stage, 1, tokens),
+        Parsed::TooDeep => drop_chunk(draft, stage, 4, tokens),
+        Parsed::None => drop_chunk(draft, stage, 1, tokens),
         Parsed::Tree(tree, end) => {
             let class = first_class(tokens);
             if end as usize == tokens.len() && stage.takes(class) {
@@ -159,36 +123,30 @@ fn judge_tree(
                 Ok(stage.behind(class))
             } else {
                 drop(tree);
-                drop_chunk(draft, wanted, stage, 1, tokens)
+                drop_chunk(draft, stage, 1, tokens)
             }
         }
     }
 }
 
 /// Judges a chunk: adds what is said of it, and says what may stand behind it.
-fn judge(
-    alloc: Global,
-    draft: &mut Draft,
-    wanted: Wanted,
-    stage: Stage,
-    tokens: &[Token],
-) -> Mem<Stage>
+fn judge<L: Look>(alloc: Global, draft: &mut Draft, stage: Stage, tokens: &[Token]) -> Mem<Stage>
     requires { length tokens.now < 2 ^ 32 }
-    ensures { IfOk result (HasJudged wanted draft.old draft.new stage tokens.now) }
+    ensures { IfOk result (HasJudged L.wanted draft.old draft.new stage tokens.now) }
 {
     let before = draft.faults.len();
     put_bad_tokens(&mut draft.faults, tokens)?;
     if draft.faults.len() > before {
         Ok(stage.passed())
     } else {
-        judge_tree(alloc, draft, wanted, stage, tokens)
+        judge_tree::<L>(alloc, draft, stage, tokens)
     }
 }
 
 /// Judges the chunks of a file one behind the other.
-pub fn judge_chunks(alloc: Global, wanted: Wanted, tokens: &[Token]) -> Mem<Draft>
+pub fn judge_chunks<L: Look>(alloc: Global, tokens: &[Token]) -> Mem<Draft>
     requires { length tokens.now < 2 ^ 32 }
-    ensures { IfOk result (HasVerdicts wanted (parts_of tokens.now (chunks_of tokens.now))) }
+    ensures { IfOk result (HasVerdicts L.wanted (parts_of tokens.now (chunks_of tokens.now))) }
 {
     let places = chunks(alloc, tokens)?;
     let mut draft = Draft {
@@ -199,7 +157,7 @@ pub fn judge_chunks(alloc: Global, wanted: Wanted, tokens: &[Token]) -> Mem<Draf
     let mut stage = Stage::Clause;
     for place in &places {
         let chunk = part(tokens, place.0 as usize, place.1 as usize);
-        stage = judge(alloc, &mut draft, wanted, stage, chunk)?;
+        stage = judge::<L>(alloc, &mut draft, stage, chunk)?;
     }
     Ok(draft)
 }

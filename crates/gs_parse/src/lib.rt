@@ -6,6 +6,7 @@ mod docs;
 pub mod faults;
 mod judge;
 pub mod laws;
+mod look;
 pub mod parse;
 mod part;
 mod stage;

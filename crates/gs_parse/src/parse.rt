@@ -6,8 +6,9 @@ ghost use Rattle.gs_parse.specs.Files.{IsFileTree, most_bytes};
 
 use crate::docs::docs_of;
 use crate::faults::fault_alone;
-use crate::judge::{Draft, Wanted, judge_chunks};
+use crate::judge::{Draft, judge_chunks};
 use crate::laws::few_tokens;
+use crate::look::Trees;
 use crate::text::text_of;
 use gs_base::Mem;
 use gs_grammar::trees::FileTree;
@@ -42,7 +43,7 @@ fn text_tree(alloc: Global, text: &str) -> Mem<FileTree>
     if tokens.is_empty() {
         return tree_alone(alloc, 1);
     }
-    let draft = judge_chunks(alloc, Wanted::Trees, tokens)?;
+    let draft = judge_chunks::<Trees>(alloc, tokens)?;
     let docs = docs_of(
         alloc,
         text,

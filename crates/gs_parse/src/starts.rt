@@ -1,9 +1,10 @@
 //! Where a chunk, its declarations and their specs begin.
 
 ghost use Rattle.std.specs.Prelude.{◌≡◌, ◌++◌, reverse, OnOk};
-ghost use Rattle.gs_syntax.specs.Chunks as chunk;
 ghost use Rattle.gs_parse.specs.Docs as spec;
 
+use gs_places::classes::is_semi;
+use gs_places::front::is_mark;
 use gs_syntax::token::{Keyword, Operator, Token, TokenKind};
 use std::alloc::{AllocError, Global};
 
@@ -19,33 +20,12 @@ fn is_grouping(kind: &TokenKind) -> bool
     }
 }
 
-fn is_left_paren(kind: &TokenKind) -> bool
-    ensures { result ≡ spec.is_left_paren kind.now }
-{
-    matches!(kind, TokenKind::Operator(Operator::LeftParen))
-}
-
-fn is_right_paren(kind: &TokenKind) -> bool
-    ensures { result ≡ spec.is_right_paren kind.now }
-{
-    matches!(kind, TokenKind::Operator(Operator::RightParen))
-}
-
-fn is_semicolon(kind: &TokenKind) -> bool
-    ensures { result ≡ chunk.is_semicolon kind.now }
-{
-    matches!(
-        kind,
-        TokenKind::Operator(Operator::Semicolon) | TokenKind::Inserted
-    )
-}
-
 fn begins_declaration(before: &TokenKind, kind: &TokenKind) -> bool
     ensures { result ≡ spec.begins_declaration before.now kind.now }
 {
     match kind {
         TokenKind::Keyword(Keyword::Const | Keyword::Var) => true,
-        TokenKind::Keyword(Keyword::Type) => !is_left_paren(before),
+        TokenKind::Keyword(Keyword::Type) => !is_mark(Operator::LeftParen, before),
         _ => false,
     }
 }
@@ -60,7 +40,9 @@ fn in_group(brackets: &[bool]) -> bool
 fn begins_spec(before: &TokenKind, brackets: &[bool], kind: &TokenKind) -> bool
     ensures { result ≡ spec.begins_spec before.now (reverse brackets.now) kind.now }
 {
-    in_group(brackets) && (is_left_paren(before) || is_semicolon(before)) && !is_right_paren(kind)
+    in_group(brackets)
+        && (is_mark(Operator::LeftParen, before) || is_semi(before))
+        && !is_mark(Operator::RightParen, kind)
 }
 
 /// Adds the bracket that a token opens, or takes away the one that it closes.

@@ -3,8 +3,8 @@ ghost use Rattle.std.specs.Prelude.{◌<◌, ◌≤◌, ◌^◌, length};
 ghost use Rattle.gs_grammar.specs.Grammar.{IsChunkAt};
 ghost use Rattle.gs_parse_expr.specs.Answer.{IsEnd};
 
-use gs_rows::decls::chunk;
 use gs_rows::table::{places_of, whole};
+use gs_rows_decls::chunks::chunk;
 use gs_syntax::token::Token;
 use std::alloc::Global;
 

@@ -1,4 +1,3 @@
 pub mod Absences
 pub mod Defines
 pub mod Filling
-pub mod Receivers

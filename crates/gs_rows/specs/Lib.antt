@@ -1,3 +1,2 @@
 pub mod Joints
-pub mod Receivers
 pub mod Turns

@@ -4,14 +4,16 @@ ghost use Rattle.std.specs.Prelude.{◌≡◌, ◌<◌, ◌+◌, ◌^◌, ◌∷
 ghost use Rattle.gs_rows.specs.Joints as spec;
 ghost use Rattle.gs_places.specs.Places.{exprs_at, levels_at, lists_at, place, types_at};
 
-use crate::decls::{const_specs_by, import_specs_by, type_specs_by, var_specs_by};
-use crate::parts::{arm_by, arms_by, clauses_by, comm_clauses_by, type_clauses_by};
+use crate::arms::{arm_by, arms_by};
+use crate::clauses::{clauses_by, comm_clauses_by, type_clauses_by};
 use crate::stmts::stmts_by;
 use gs_places::place::{Exprs, Levels, Lists, Place, Types};
 use gs_places::rest::{Rest, kept};
+use gs_rows_decls::decls::import_specs_by;
+use gs_rows_decls::groups::{const_specs_by, type_specs_by, var_specs_by};
 use gs_rows_expr::lists::{args_by, elements_by, suffixes_by};
 use gs_rows_expr::rows::operators;
-use gs_rows_expr::types::{fields_by, members_by};
+use gs_rows_types::members::{fields_by, members_by};
 use gs_syntax::token::{Operator, Token, TokenKind};
 
 /// Whether the token only joins or ends forms.

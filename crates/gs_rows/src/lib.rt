@@ -1,9 +1,11 @@
-//! The rows of statements, declarations and chunks, and the table of all places.
+//! The rows of statements, and the table of all places.
 #![tactic(auto)]
 
-pub mod decls;
+pub mod arms;
+pub mod clauses;
 pub mod joints;
 pub mod parts;
 pub mod rows;
+pub mod simples;
 pub mod stmts;
 pub mod table;

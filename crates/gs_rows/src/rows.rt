@@ -4,19 +4,20 @@ ghost use Rattle.gs_grammar.specs.Steps as steps;
 ghost use Rattle.gs_places.specs.Places.{lists_at, place, stands};
 ghost use Rattle.gs_places.specs.Spots.{Spots};
 
-use crate::decls::{
-    const_spec_by, const_specs_by, decl_by, import_spec_by, import_specs_by, type_spec_by,
-    type_specs_by, var_spec_by, var_specs_by,
-};
+use crate::arms::{arm_by, arms_by};
+use crate::clauses::{clauses_by, comm_clauses_by, type_clauses_by, types_by};
 use crate::joints::{is_joint, joint_by};
-use crate::parts::{
-    arm_by, arms_by, clauses_by, comm_clauses_by, simple_by, type_clauses_by, types_by,
-};
+use crate::simples::simple_by;
 use crate::stmts::{stmt_by, stmts_by};
-use gs_places::place::{Cell, Lists, Place};
+use gs_places::place::{Lists, Place};
 use gs_places::rest::{Rest, Spot, kept};
-use gs_rows_expr::rows::{Level, expr_row, level_by, type_row};
-use gs_rows_expr::types::{idents_by, type_by, type_name_by};
+use gs_rows_decls::decls::{decl_by, import_spec_by, import_specs_by};
+use gs_rows_decls::groups::{
+    const_spec_by, const_specs_by, type_spec_by, type_specs_by, var_spec_by, var_specs_by,
+};
+use gs_rows_expr::rows::{Level, expr_row, level_by};
+use gs_rows_types::rows::type_row;
+use gs_rows_types::types::{idents_by, type_by, type_name_by};
 use gs_syntax::token::Token;
 
 /// What the table has of the statements and lists that begin with the token.

@@ -1,5 +1,5 @@
 //! Statements: where each form ends, from the table of the places behind it.
-ghost use Rattle.std.specs.Prelude.{◌≡◌, ◌≤◌, ◌<◌, ◌+◌, ◌^◌, ◌∷◌, length, suc, true, false};
+ghost use Rattle.std.specs.Prelude.{◌≡◌, ◌<◌, ◌+◌, ◌^◌, length, false};
 ghost use Rattle.gs_grammar.specs.Steps as steps;
 ghost use Rattle.gs_grammar.specs.Reference as reference;
 ghost use Rattle.gs_places.specs.Places.{cell, stands};

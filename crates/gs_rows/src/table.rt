@@ -1,5 +1,5 @@
 //! The table of all places of a list of tokens.
-ghost use Rattle.std.specs.Prelude.{[], ◌≡◌, ◌<◌, ◌+◌, ◌^◌, length, IfOk};
+ghost use Rattle.std.specs.Prelude.{[], ◌≡◌, ◌<◌, ◌^◌, length, IfOk};
 ghost use Rattle.gs_places.specs.Places.{levels_at, place, places};
 ghost use Rattle.gs_rows.specs.Turns.{Comes};
 

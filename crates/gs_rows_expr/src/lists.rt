@@ -1,12 +1,12 @@
 //! Suffixes, and the lists of expressions: where each form ends, from the table of the places behind it.
-ghost use Rattle.std.specs.Prelude.{◌≡◌, ◌≤◌, ◌<◌, ◌+◌, ◌^◌, length, suc, true, false};
+ghost use Rattle.std.specs.Prelude.{◌≡◌, ◌≤◌, ◌<◌, ◌+◌, ◌^◌, length, true, false};
 ghost use Rattle.gs_grammar.specs.Steps as steps;
 ghost use Rattle.gs_places.specs.Places.{cell, stands};
 ghost use Rattle.gs_places.specs.Spots.{Spots};
 
 use gs_places::at::{at_args, at_elements, at_expr, at_exprs, at_operands, at_suffixes, at_type};
 use gs_places::classes::{is_binary, is_bound_end};
-use gs_places::front::{first_mark, is_mark, mark, name, selector, trail};
+use gs_places::front::{first_mark, is_mark, mark, name, trail};
 use gs_places::place::Cell;
 use gs_places::rest::{Rest, Spot, deeper, deepest, kept, stay};
 use gs_syntax::token::{Operator, Token};

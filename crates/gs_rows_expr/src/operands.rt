@@ -1,14 +1,14 @@
 //! Operands, primary expressions and operators: where each form ends, from the table of the places behind it.
-ghost use Rattle.std.specs.Prelude.{◌≡◌, ◌≤◌, ◌<◌, ◌+◌, ◌^◌, length, suc, true, false};
+ghost use Rattle.std.specs.Prelude.{◌≤◌, suc};
 ghost use Rattle.gs_grammar.specs.Steps as steps;
-ghost use Rattle.gs_places.specs.Places.{cell, stands};
+ghost use Rattle.gs_places.specs.Places.{stands};
 ghost use Rattle.gs_places.specs.Spots.{Spots};
 
-use crate::types::signature;
 use gs_places::at::{at_elements, at_inner, at_operands, at_stmts, at_suffixes, at_type, at_unary};
 use gs_places::classes::{is_basic, is_composite_start, is_other_start, is_sign};
 use gs_places::front::{first_mark, first_name, first_word, mark, name, selector, stop};
 use gs_places::rest::{Rest, Spot, deeper, deepest};
+use gs_rows_types::params::signature;
 use gs_syntax::token::{Keyword, Operator, Token};
 
 /// The form `values_in_braces` of the literal value.

@@ -5,11 +5,11 @@ use Rattle.gs_parse.proofs.Judging.{Leads, front_at, leads_all, leads_first, lea
 use Rattle.gs_parse.proofs.judge.judge_chunks.Goals as goal
 
 pub loop-place-init : goal.loop-place-init
-loop-place-init c = leads_first c.args.wanted _ _ _ _ c.new.ensures.items c.new-2.ensures.items c.new-3.ensures.items
+loop-place-init g c = leads_first g.L.Look.wanted _ _ _ _ c.new.ensures.items c.new-2.ensures.items c.new-3.ensures.items
 
 pub loop-place-preserved : goal.loop-place-preserved
-loop-place-preserved c =
-    leads_more c.args.wanted
+loop-place-preserved g c =
+    leads_more g.L.Look.wanted
     (parts_of c.args.tokens.now c.deref-place-items.result.now)
     c.part-chunk.result.now
     (parts_of c.args.tokens.now (drop (c.loop-place.place-index + 1) c.deref-place-items.result.now))
@@ -20,22 +20,22 @@ loop-place-preserved c =
     c.in_ok-stage.ensures
     (
     subst
-    (λ rest. Leads c.args.wanted (parts_of c.args.tokens.now c.deref-place-items.result.now) rest c.loop-place.stage c.loop-place.draft.chunks.items c.loop-place.draft.starts.items c.loop-place.draft.faults.items)
+    (λ rest. Leads g.L.Look.wanted (parts_of c.args.tokens.now c.deref-place-items.result.now) rest c.loop-place.stage c.loop-place.draft.chunks.items c.loop-place.draft.starts.items c.loop-place.draft.faults.items)
     (front_at c.args.tokens.now c.deref-place-items.result.now c.loop-place.place-index c.part-chunk.result.now c.loop-place-test.true c.part-chunk.ensures)
     c.loop-place.invariant
     )
 
 pub returns : goal.returns
-returns c =
-    subst (λ places. HasVerdicts c.args.wanted (parts_of c.args.tokens.now places) c.loop-place.draft) (c.deref-place-items.ensures.value ∙ c.in_ok-places.ensures)
+returns g c =
+    subst (λ places. HasVerdicts g.L.Look.wanted (parts_of c.args.tokens.now places) c.loop-place.draft) (c.deref-place-items.ensures.value ∙ c.in_ok-places.ensures)
     (
-    leads_all c.args.wanted
+    leads_all g.L.Look.wanted
     (parts_of c.args.tokens.now c.deref-place-items.result.now)
     c.loop-place.stage
     c.loop-place.draft
     (
     subst
-    (λ rest. Leads c.args.wanted (parts_of c.args.tokens.now c.deref-place-items.result.now) rest c.loop-place.stage c.loop-place.draft.chunks.items c.loop-place.draft.starts.items c.loop-place.draft.faults.items)
+    (λ rest. Leads g.L.Look.wanted (parts_of c.args.tokens.now c.deref-place-items.result.now) rest c.loop-place.stage c.loop-place.draft.chunks.items c.loop-place.draft.starts.items c.loop-place.draft.faults.items)
     (none_left c.args.tokens.now c.deref-place-items.result.now c.loop-place.place-index c.loop-place-test.false)
     c.loop-place.invariant
     )
