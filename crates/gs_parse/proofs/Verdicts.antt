@@ -105,15 +105,6 @@ none_starts Trees ts faults = refl
 same_items : {A : Type 0} (old new more : List A) → new ≡ old → more ≡ [] → new ≡ old ++ more
 same_items old new more same none = same ∙ sym (append-nil old) ∙ ap (λ l. old ++ l) (sym none)
 
-pub dropped_added : (wanted : Wanted) (old new : Draft) (stage next : Stage) (ts : List Token) (faults : List Fault) → new.chunks.items ≡ old.chunks.items → new.starts.items ≡ old.starts.items →
-    new.faults.items ≡ old.faults.items ++ faults → next ≡ passed stage → HasAdded wanted old new stage next ts (Dropped faults)
-dropped_added wanted old new stage next ts faults chunks_same starts_same e n = record {
-  chunks = same_items old.chunks.items new.chunks.items (kept_for wanted (Dropped faults ∷ [])) chunks_same (none_kept wanted faults);
-  starts = same_items old.starts.items new.starts.items (starts_for wanted (ts ∷ []) (Dropped faults ∷ [])) starts_same (none_starts wanted ts faults);
-  faults = e ∙ sym (ap (λ l. old.faults.items ++ l) (append-nil faults));
-  stages = n;
-}
-
 some_bad : (ts : List Token) (xs ys : List Fault) → ys ≡ xs ++ bad_tokens ts → length xs < length ys → bad_tokens ts ≢ []
 some_bad ts xs ys e more none = let size = ap length e ∙ length-append xs (bad_tokens ts) in let small = ap length none in omega (arith, size, small)
 
@@ -122,5 +113,10 @@ pub bad_judged : (wanted : Wanted) (old new : Draft) (stage next : Stage) (ts : 
 bad_judged wanted old new stage next ts chunks_same starts_same e more n = record {
   verdict = Dropped (bad_tokens ts);
   right = bad (some_bad ts old.faults.items new.faults.items e more);
-  added = dropped_added wanted old new stage next ts (bad_tokens ts) chunks_same starts_same e n;
+  added = record {
+    chunks = same_items old.chunks.items new.chunks.items (kept_for wanted (Dropped (bad_tokens ts) ∷ [])) chunks_same (none_kept wanted (bad_tokens ts));
+    starts = same_items old.starts.items new.starts.items (starts_for wanted (ts ∷ []) (Dropped (bad_tokens ts) ∷ [])) starts_same (none_starts wanted ts (bad_tokens ts));
+    faults = e ∙ sym (ap (λ l. old.faults.items ++ l) (append-nil (bad_tokens ts)));
+    stages = n;
+  };
 }
