@@ -1,6 +1,6 @@
 //! The tokens that trees keep, and what is left behind them. A function `first_..` asks for a token that stands before a
 //! place, the others for the first token of a place.
-ghost use Rattle.std.specs.Prelude.{◌≡◌, ◌∷◌};
+ghost use Rattle.std.specs.Prelude.{◌∷◌};
 ghost use Rattle.gs_grammar.specs.Front as spec;
 ghost use Rattle.gs_places.specs.Places.{Sees};
 

@@ -9,6 +9,7 @@ use crate::simples::simple_from;
 use gs_build_base::here::{expr_here, exprs_here};
 use gs_build_base::maker::{Maker, expr_made};
 use gs_build_base::pieces::{Part, Piece, Stop};
+use gs_build_pairs::lists::{Listed, last_arm};
 use gs_build_pairs::pairs::{arm_and_block, expr_and_block, header_and_block};
 use gs_grammar::trees::{Arm, Block, Expr, Simple};
 use gs_places::at::at_expr;
@@ -322,22 +323,23 @@ pub fn arms_tree<'a, M: Maker>(
     'turns: while found.len() <= s.tokens.len() {
         match arms_turn(alloc, make, rest) {
             Ok(Part::More(item, more)) => {
-                found.push(item)?;
+                found = Listed::grown(found, item)?;
                 rest = more;
             }
-            Ok(Part::Last(item, end, more)) => {
-                found.push(item)?;
-                return Ok(Piece {
-                    tree: (found, end),
-                    rest: more,
-                });
-            }
+            Ok(Part::Last(item, end, more)) => return Ok(Piece {
+                tree: last_arm(found, item, end)?,
+                rest: more,
+            }),
             Ok(Part::End(end, more)) => return Ok(Piece {
                 tree: (found, end),
                 rest: more,
             }),
-            Err(stop) => return Err(stop),
+            Err(stop) => {
+                Listed::let_go(found);
+                return Err(stop);
+            }
         }
     }
+    Listed::let_go(found);
     Err(Stop::Absent)
 }

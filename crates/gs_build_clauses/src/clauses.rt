@@ -8,6 +8,7 @@ use gs_build_base::front::{first_word_span, mark_span};
 use gs_build_base::here::{expr_here, exprs_here, type_here};
 use gs_build_base::maker::{Maker, expr_made, exprs_made, type_made};
 use gs_build_base::pieces::{Piece, Stop, Turn};
+use gs_build_pairs::lists::Listed;
 use gs_build_pairs::pairs::{
     comm_and_stmts, exprs_and_stmts, list_and_expr, two_exprs, types_and_stmts,
 };
@@ -95,11 +96,11 @@ pub fn clauses_tree<'a, M: Maker>(
     'turns: while found.len() <= s.tokens.len() {
         match clauses_turn(make, rest) {
             Ok(Turn::More(item, more)) => {
-                found.push(item)?;
+                found = Listed::grown(found, item)?;
                 rest = more;
             }
             Ok(Turn::Last(item, more)) => {
-                found.push(item)?;
+                found = Listed::grown(found, item)?;
                 return Ok(Piece {
                     tree: found,
                     rest: more,
@@ -109,9 +110,13 @@ pub fn clauses_tree<'a, M: Maker>(
                 tree: found,
                 rest: more,
             }),
-            Err(stop) => return Err(stop),
+            Err(stop) => {
+                Listed::let_go(found);
+                return Err(stop);
+            }
         }
     }
+    Listed::let_go(found);
     Err(Stop::Absent)
 }
 
@@ -184,11 +189,11 @@ pub fn types_tree<'a, M: Maker>(
     'turns: while found.len() <= s.tokens.len() {
         match types_turn(make, rest) {
             Ok(Turn::More(item, more)) => {
-                found.push(item)?;
+                found = Listed::grown(found, item)?;
                 rest = more;
             }
             Ok(Turn::Last(item, more)) => {
-                found.push(item)?;
+                found = Listed::grown(found, item)?;
                 return Ok(Piece {
                     tree: found,
                     rest: more,
@@ -198,9 +203,13 @@ pub fn types_tree<'a, M: Maker>(
                 tree: found,
                 rest: more,
             }),
-            Err(stop) => return Err(stop),
+            Err(stop) => {
+                Listed::let_go(found);
+                return Err(stop);
+            }
         }
     }
+    Listed::let_go(found);
     Err(Stop::Absent)
 }
 
@@ -284,11 +293,11 @@ pub fn type_clauses_tree<'a, M: Maker>(
     'turns: while found.len() <= s.tokens.len() {
         match type_clauses_turn(alloc, make, rest) {
             Ok(Turn::More(item, more)) => {
-                found.push(item)?;
+                found = Listed::grown(found, item)?;
                 rest = more;
             }
             Ok(Turn::Last(item, more)) => {
-                found.push(item)?;
+                found = Listed::grown(found, item)?;
                 return Ok(Piece {
                     tree: found,
                     rest: more,
@@ -298,9 +307,13 @@ pub fn type_clauses_tree<'a, M: Maker>(
                 tree: found,
                 rest: more,
             }),
-            Err(stop) => return Err(stop),
+            Err(stop) => {
+                Listed::let_go(found);
+                return Err(stop);
+            }
         }
     }
+    Listed::let_go(found);
     Err(Stop::Absent)
 }
 
@@ -527,11 +540,11 @@ pub fn comm_clauses_tree<'a, M: Maker>(
     'turns: while found.len() <= s.tokens.len() {
         match comm_clauses_turn(make, rest) {
             Ok(Turn::More(item, more)) => {
-                found.push(item)?;
+                found = Listed::grown(found, item)?;
                 rest = more;
             }
             Ok(Turn::Last(item, more)) => {
-                found.push(item)?;
+                found = Listed::grown(found, item)?;
                 return Ok(Piece {
                     tree: found,
                     rest: more,
@@ -541,8 +554,12 @@ pub fn comm_clauses_tree<'a, M: Maker>(
                 tree: found,
                 rest: more,
             }),
-            Err(stop) => return Err(stop),
+            Err(stop) => {
+                Listed::let_go(found);
+                return Err(stop);
+            }
         }
     }
+    Listed::let_go(found);
     Err(Stop::Absent)
 }

@@ -11,6 +11,7 @@ use gs_build_base::copies::copy;
 use gs_build_base::front::{first_word_span, name_token};
 use gs_build_base::maker::{Maker, block_made};
 use gs_build_base::pieces::{Piece, Stop};
+use gs_build_pairs::pairs::{let_params_go, params_and_method, signature_and_body};
 use gs_grammar::trees::{Block, Chunk, Signature, Top};
 use gs_places::at::at_import_specs;
 use gs_places::classes::{is_decl_start, is_semi};
@@ -118,8 +119,12 @@ fn build_function<'a, M: Maker>(
     let (name, r1) = name_token(r0).ok_or(Stop::Absent)?;
     let f2 = signature(r1).ok_or(Stop::Absent)?;
     let name = copy(alloc, name)?;
-    let z = make.make_signature(r1)?.tree;
-    let Piece { tree: o, rest: r3 } = body_tree(make, f2.rest)?;
+    let signature = make.make_signature(r1);
+    let body = body_tree(make, f2.rest);
+    let Piece {
+        tree: (z, o),
+        rest: r3,
+    } = signature_and_body(signature, body)?;
     Ok(Piece {
         tree: Top::Function(p, name, z, o),
         rest: r3,
@@ -137,12 +142,8 @@ fn build_method_decl_end<'a, M: Maker>(
     ensures { Gives result (tail_of_method_decl s.entry.tokens.now) }
 {
     let f0 = signature(s).ok_or(Stop::Absent)?;
-    let z = make.make_signature(s)?.tree;
-    let Piece { tree: o, rest: r1 } = body_tree(make, f0.rest)?;
-    Ok(Piece {
-        tree: (z, o),
-        rest: r1,
-    })
+    let signature = make.make_signature(s);
+    signature_and_body(signature, body_tree(make, f0.rest))
 }
 
 /// The form `method_decl` of the top-level declaration.
@@ -164,14 +165,15 @@ fn build_method_decl<'a, M: Maker>(
     let f2 = params(false, r0).ok_or(Stop::Absent)?;
     let (name, r4) = name_token(f2.rest).ok_or(Stop::Absent)?;
     let name = copy(alloc, name)?;
-    let ps = make.make_params(false, r0)?.tree;
-    if !is_receiver(&ps) {
+    let receiver = make.make_params(false, r0)?;
+    if !is_receiver(&receiver.tree) {
+        let_params_go(receiver.tree);
         return Err(Stop::Absent);
     }
     let Piece {
-        tree: (z, o),
+        tree: (ps, (z, o)),
         rest: r5,
-    } = build_method_decl_end(make, r4)?;
+    } = params_and_method(Ok(receiver), build_method_decl_end(make, r4))?;
     Ok(Piece {
         tree: Top::Method(p, ps, name, z, o),
         rest: r5,

@@ -1,5 +1,4 @@
 //! Trees of declarations.
-ghost use Rattle.std.specs.Prelude.{◌≡◌};
 ghost use Rattle.gs_grammar.specs.Reference as reference;
 ghost use Rattle.gs_places.specs.Places.{stands};
 ghost use Rattle.gs_build_base.specs.Pieces.{Builds, Turns};

@@ -10,6 +10,8 @@ use gs_build_base::here::idents_here;
 use gs_build_base::maker::Maker;
 use gs_build_base::names::idents_from;
 use gs_build_base::pieces::{Piece, Stop, Turn};
+use gs_build_pairs::lists::Listed;
+use gs_build_pairs::pairs::type_and_exprs;
 use gs_grammar::trees::{ConstSpec, TypeSpec, VarSpec};
 use gs_places::at::at_type;
 use gs_places::front::{is_mark, mark, semi, spec_end};
@@ -99,8 +101,12 @@ fn build_typed_const<'a, M: Maker>(
     let f3 = at_type(f0.rest).ok_or(Stop::Absent)?;
     let r4 = mark(Operator::Assign, f3.rest).ok_or(Stop::Absent)?;
     let xs = idents_from(alloc, place, x, s)?.tree;
-    let t = make.make_type(f0.rest)?.tree;
-    let Piece { tree: ts, rest: r5 } = make.make_exprs(false, r4)?;
+    let typed = make.make_type(f0.rest);
+    let values = make.make_exprs(false, r4);
+    let Piece {
+        tree: (t, ts),
+        rest: r5,
+    } = type_and_exprs(typed, values)?;
     Ok(Piece {
         tree: ConstSpec::Typed(xs, t, ts),
         rest: r5,
@@ -233,12 +239,12 @@ pub fn const_specs_tree<'a, M: Maker>(
     'turns: while found.len() <= s.tokens.len() {
         match const_specs_turn(alloc, make, now, rest) {
             Ok(Turn::More(item, more)) => {
-                found.push(item)?;
+                found = Listed::grown(found, item)?;
                 rest = more;
                 now = false;
             }
             Ok(Turn::Last(item, more)) => {
-                found.push(item)?;
+                found = Listed::grown(found, item)?;
                 return Ok(Piece {
                     tree: found,
                     rest: more,
@@ -248,9 +254,13 @@ pub fn const_specs_tree<'a, M: Maker>(
                 tree: found,
                 rest: more,
             }),
-            Err(stop) => return Err(stop),
+            Err(stop) => {
+                Listed::let_go(found);
+                return Err(stop);
+            }
         }
     }
+    Listed::let_go(found);
     Err(Stop::Absent)
 }
 
@@ -409,11 +419,11 @@ pub fn type_specs_tree<'a, M: Maker>(
     'turns: while found.len() <= s.tokens.len() {
         match type_specs_turn(alloc, make, rest) {
             Ok(Turn::More(item, more)) => {
-                found.push(item)?;
+                found = Listed::grown(found, item)?;
                 rest = more;
             }
             Ok(Turn::Last(item, more)) => {
-                found.push(item)?;
+                found = Listed::grown(found, item)?;
                 return Ok(Piece {
                     tree: found,
                     rest: more,
@@ -423,9 +433,13 @@ pub fn type_specs_tree<'a, M: Maker>(
                 tree: found,
                 rest: more,
             }),
-            Err(stop) => return Err(stop),
+            Err(stop) => {
+                Listed::let_go(found);
+                return Err(stop);
+            }
         }
     }
+    Listed::let_go(found);
     Err(Stop::Absent)
 }
 
@@ -504,8 +518,12 @@ fn build_typed_values<'a, M: Maker>(
     let f2 = at_type(f0.rest).ok_or(Stop::Absent)?;
     let r3 = mark(Operator::Assign, f2.rest).ok_or(Stop::Absent)?;
     let xs = idents_from(alloc, place, x, s)?.tree;
-    let t = make.make_type(f0.rest)?.tree;
-    let Piece { tree: ts, rest: r4 } = make.make_exprs(false, r3)?;
+    let typed = make.make_type(f0.rest);
+    let values = make.make_exprs(false, r3);
+    let Piece {
+        tree: (t, ts),
+        rest: r4,
+    } = type_and_exprs(typed, values)?;
     Ok(Piece {
         tree: VarSpec::TypedValues(xs, t, ts),
         rest: r4,
@@ -631,11 +649,11 @@ pub fn var_specs_tree<'a, M: Maker>(
     'turns: while found.len() <= s.tokens.len() {
         match var_specs_turn(alloc, make, rest) {
             Ok(Turn::More(item, more)) => {
-                found.push(item)?;
+                found = Listed::grown(found, item)?;
                 rest = more;
             }
             Ok(Turn::Last(item, more)) => {
-                found.push(item)?;
+                found = Listed::grown(found, item)?;
                 return Ok(Piece {
                     tree: found,
                     rest: more,
@@ -645,8 +663,12 @@ pub fn var_specs_tree<'a, M: Maker>(
                 tree: found,
                 rest: more,
             }),
-            Err(stop) => return Err(stop),
+            Err(stop) => {
+                Listed::let_go(found);
+                return Err(stop);
+            }
         }
     }
+    Listed::let_go(found);
     Err(Stop::Absent)
 }

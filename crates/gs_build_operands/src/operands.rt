@@ -1,9 +1,8 @@
 //! Trees of operands.
-ghost use Rattle.std.specs.Prelude.{◌≡◌, ◌∷◌, IfOk};
+ghost use Rattle.std.specs.Prelude.{◌≡◌, ◌∷◌};
 ghost use Rattle.gs_grammar.specs.Steps as steps;
 ghost use Rattle.gs_places.specs.Places.{stands};
 ghost use Rattle.gs_build_base.specs.Pieces.{Builds};
-ghost use Rattle.gs_grammar.specs.Parts as spec;
 
 use crate::literals::{block_tree, literal_tree, received_tree, selected_tree};
 use crate::suffixes::suffixes_tree;
@@ -12,7 +11,12 @@ use gs_build_base::front::{first_mark_span, first_name_token, first_word_span, m
 use gs_build_base::here::type_here;
 use gs_build_base::maker::{Maker, type_made};
 use gs_build_base::pieces::{Piece, Stop};
-use gs_grammar::trees::{Expr, Suffix, TypeExpr};
+use gs_build_pairs::nodes::{
+    composite, counted, function, function_type, paren, prefixed, receive_channel, type_as_expr,
+    with_suffixes,
+};
+use gs_build_pairs::pairs::{expr_and_suffixes, signature_and_block, type_and_value};
+use gs_grammar::trees::{Expr, TypeExpr};
 use gs_places::at::{at_inner, at_type};
 use gs_places::classes::{is_basic, is_composite_start, is_other_start, is_sign};
 use gs_places::front::{mark, selector};
@@ -27,8 +31,7 @@ use gs_rows_expr::operands::{
 use gs_rows_types::params::signature;
 use gs_rows_types::types::{type_by, type_name_by};
 use gs_syntax::token::{Keyword, Operator, Token, TokenKind};
-use sqlite_items::{Boxed, Items};
-use std::alloc::{AllocError, Global};
+use std::alloc::Global;
 
 /// The form `basic_literal` of the operand.
 #[tactic(auto, unfolding(gs_grammar::specs::Steps::read_basic_literal, gs_grammar::specs::Front::front_at))]
@@ -92,7 +95,7 @@ fn build_literal_of_selected<'a, M: Maker>(
         rest: r2,
     } = selected_tree(alloc, make, r0)?;
     Ok(Piece {
-        tree: Expr::Composite(Boxed::new(alloc, TypeExpr::Qualified(name, y0))?, y1),
+        tree: composite(alloc, TypeExpr::Qualified(name, y0), y1)?,
         rest: r2,
     })
 }
@@ -143,9 +146,10 @@ fn build_literal_of_name<'a, M: Maker>(
     if selector(r0).is_some() {
         return Err(Stop::Absent);
     }
+    let name = copy(alloc, name)?;
     let Piece { tree: v, rest: r3 } = literal_tree(make, r0)?;
     Ok(Piece {
-        tree: Expr::Composite(Boxed::new(alloc, TypeExpr::Name(copy(alloc, name)?))?, v),
+        tree: composite(alloc, TypeExpr::Name(name), v)?,
         rest: r3,
     })
 }
@@ -168,7 +172,7 @@ fn build_paren<'a, M: Maker>(
     let (q, r2) = mark_span(Operator::RightParen, f1.rest).ok_or(Stop::Absent)?;
     let t = make.make_expr(5, false, true, r0)?.tree;
     Ok(Piece {
-        tree: Expr::Paren(p, Boxed::new(alloc, t)?, q),
+        tree: paren(alloc, p, t, q)?,
         rest: r2,
     })
 }
@@ -192,10 +196,13 @@ fn build_literal_of_type<'a, M: Maker>(
         return Err(Stop::Absent);
     }
     let f1 = type_by(type_name_by(x, s), x, s).ok_or(Stop::Absent)?;
-    let t = Boxed::new(alloc, type_made(make, place, x, s)?.tree)?;
-    let Piece { tree: v, rest: r2 } = literal_tree(make, f1.rest)?;
+    let typed = type_made(make, place, x, s);
+    let Piece {
+        tree: (t, v),
+        rest: r2,
+    } = type_and_value(typed, literal_tree(make, f1.rest))?;
     Ok(Piece {
-        tree: Expr::Composite(t, v),
+        tree: composite(alloc, t, v)?,
         rest: r2,
     })
 }
@@ -224,7 +231,7 @@ fn build_composite_type<'a, M: Maker>(
     }
     let t = type_made(make, place, x, s)?.tree;
     Ok(Piece {
-        tree: Expr::Type(Boxed::new(alloc, t)?),
+        tree: type_as_expr(alloc, t)?,
         rest: f1.rest,
     })
 }
@@ -246,10 +253,13 @@ fn build_counted_literal<'a, M: Maker>(
     let r1 = mark(Operator::Ellipsis, r0).ok_or(Stop::Absent)?;
     let r2 = mark(Operator::RightBracket, r1).ok_or(Stop::Absent)?;
     let f3 = at_type(r2).ok_or(Stop::Absent)?;
-    let t = Boxed::new(alloc, make.make_type(r2)?.tree)?;
-    let Piece { tree: v, rest: r4 } = literal_tree(make, f3.rest)?;
+    let element = make.make_type(r2);
+    let Piece {
+        tree: (t, v),
+        rest: r4,
+    } = type_and_value(element, literal_tree(make, f3.rest))?;
     Ok(Piece {
-        tree: Expr::Counted(p, t, v),
+        tree: counted(alloc, p, t, v)?,
         rest: r4,
     })
 }
@@ -274,7 +284,7 @@ fn build_other_type<'a, M: Maker>(
     }
     let Piece { tree: t, rest: r1 } = type_made(make, place, x, s)?;
     Ok(Piece {
-        tree: Expr::Type(Boxed::new(alloc, t)?),
+        tree: type_as_expr(alloc, t)?,
         rest: r1,
     })
 }
@@ -294,10 +304,13 @@ fn build_function_literal<'a, M: Maker>(
 {
     let (p, r0) = first_word_span(Keyword::Func, x, s).ok_or(Stop::Absent)?;
     let f1 = signature(r0).ok_or(Stop::Absent)?;
-    let z = Boxed::new(alloc, make.make_signature(r0)?.tree)?;
-    let Piece { tree: b, rest: r2 } = block_tree(make, f1.rest)?;
+    let signature = make.make_signature(r0);
+    let Piece {
+        tree: (z, b),
+        rest: r2,
+    } = signature_and_block(signature, block_tree(make, f1.rest))?;
     Ok(Piece {
-        tree: Expr::Function(p, z, b),
+        tree: function(alloc, p, z, b)?,
         rest: r2,
     })
 }
@@ -322,7 +335,7 @@ fn build_lone_function_type<'a, M: Maker>(
     }
     let z = make.make_signature(r0)?.tree;
     Ok(Piece {
-        tree: Expr::Type(Boxed::new(alloc, TypeExpr::Function(p, Boxed::new(alloc, z)?))?),
+        tree: type_as_expr(alloc, function_type(alloc, p, z)?)?,
         rest: f1.rest,
     })
 }
@@ -394,8 +407,12 @@ fn build_primary<'a, M: Maker>(
     ensures { Builds result (steps.read_primary s.entry.tokens.now stands header x.now) }
 {
     let f0 = head_by(header, type_here(place, x, s), x, s).ok_or(Stop::Absent)?;
-    let t = head_from(alloc, make, header, place, x, s)?.tree;
-    let Piece { tree: xs, rest: r1 } = suffixes_tree(alloc, make, f0.rest)?;
+    let operand = head_from(alloc, make, header, place, x, s);
+    let suffixes = suffixes_tree(alloc, make, f0.rest);
+    let Piece {
+        tree: (t, xs),
+        rest: r1,
+    } = expr_and_suffixes(operand, suffixes)?;
     Ok(Piece {
         tree: with_suffixes(alloc, t, xs)?,
         rest: r1,
@@ -473,7 +490,7 @@ fn build_signed<'a, M: Maker>(
     let token = copy(alloc, x)?;
     let Piece { tree: t, rest: r1 } = make.make_unary(header, false, s)?;
     Ok(Piece {
-        tree: Expr::Prefixed(token, Boxed::new(alloc, t)?),
+        tree: prefixed(alloc, token, t)?,
         rest: r1,
     })
 }
@@ -495,13 +512,14 @@ fn build_starred<'a, M: Maker>(
     let (p, r0) = first_mark_span(Operator::Star, x, s).ok_or(Stop::Absent)?;
     let Piece { tree: t, rest: r1 } = make.make_unary(header, first, r0)?;
     Ok(Piece {
-        tree: Expr::Prefixed(
+        tree: prefixed(
+            alloc,
             Token {
                 kind: TokenKind::Operator(Operator::Star),
                 span: p,
             },
-            Boxed::new(alloc, t)?,
-        ),
+            t,
+        )?,
         rest: r1,
     })
 }
@@ -526,7 +544,7 @@ fn build_receiver<'a, M: Maker>(
     }
     let Piece { tree: t, rest: r2 } = received_tree(make, r0)?;
     Ok(Piece {
-        tree: Expr::Type(Boxed::new(alloc, TypeExpr::ReceiveChannel(p, Boxed::new(alloc, t)?))?),
+        tree: type_as_expr(alloc, receive_channel(alloc, p, t)?)?,
         rest: r2,
     })
 }
@@ -554,13 +572,14 @@ fn build_receive_first<'a, M: Maker>(
     }
     let Piece { tree: t, rest: r3 } = make.make_unary(header, false, r0)?;
     Ok(Piece {
-        tree: Expr::Prefixed(
+        tree: prefixed(
+            alloc,
             Token {
                 kind: TokenKind::Operator(Operator::Arrow),
                 span: p,
             },
-            Boxed::new(alloc, t)?,
-        ),
+            t,
+        )?,
         rest: r3,
     })
 }
@@ -585,13 +604,14 @@ fn build_receive<'a, M: Maker>(
     }
     let Piece { tree: t, rest: r2 } = make.make_unary(header, false, r0)?;
     Ok(Piece {
-        tree: Expr::Prefixed(
+        tree: prefixed(
+            alloc,
             Token {
                 kind: TokenKind::Operator(Operator::Arrow),
                 span: p,
             },
-            Boxed::new(alloc, t)?,
-        ),
+            t,
+        )?,
         rest: r2,
     })
 }
@@ -644,15 +664,4 @@ pub fn unary_tree<'a, M: Maker>(
 {
     let (x, rest) = s.next().ok_or(Stop::Absent)?;
     unary_from(alloc, make, header, first, s, x, rest)
-}
-
-/// The operand with what follows it.
-fn with_suffixes(alloc: Global, t: Expr, xs: Items<Suffix>) -> Result<Expr, AllocError>
-    ensures { IfOk result (λ e. e ≡ spec.suffixed t xs) }
-{
-    if xs.is_empty() {
-        Ok(t)
-    } else {
-        Ok(Expr::Suffixed(Boxed::new(alloc, t)?, xs))
-    }
 }

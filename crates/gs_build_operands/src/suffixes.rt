@@ -10,6 +10,8 @@ use gs_build_base::front::{mark_span, name_token};
 use gs_build_base::here::{expr_here, inner_here};
 use gs_build_base::maker::{Maker, expr_made};
 use gs_build_base::pieces::{Part, Piece, Stop, Turn};
+use gs_build_pairs::lists::Listed;
+use gs_build_pairs::pairs::{expr_and_bound, expr_and_slice, two_exprs};
 use gs_grammar::trees::{Expr, Suffix};
 use gs_places::at::{at_args, at_expr, at_type};
 use gs_places::classes::is_bound_end;
@@ -168,11 +170,11 @@ pub fn args_tree<'a, M: Maker>(
     'turns: while found.len() <= s.tokens.len() {
         match args_turn(make, rest) {
             Ok(Part::More(item, more)) => {
-                found.push(item)?;
+                found = Listed::grown(found, item)?;
                 rest = more;
             }
             Ok(Part::Last(item, end, more)) => {
-                found.push(item)?;
+                found = Listed::grown(found, item)?;
                 return Ok(Piece {
                     tree: (found, end),
                     rest: more,
@@ -182,9 +184,13 @@ pub fn args_tree<'a, M: Maker>(
                 tree: (found, end),
                 rest: more,
             }),
-            Err(stop) => return Err(stop),
+            Err(stop) => {
+                Listed::let_go(found);
+                return Err(stop);
+            }
         }
     }
+    Listed::let_go(found);
     Err(Stop::Absent)
 }
 
@@ -262,8 +268,9 @@ fn build_open_full_slice<'a, M: Maker>(
     let r3 = mark(Operator::Colon, f2.rest).ok_or(Stop::Absent)?;
     let f4 = at_expr(5, false, r3).ok_or(Stop::Absent)?;
     let (q, r5) = mark_span(Operator::RightBracket, f4.rest).ok_or(Stop::Absent)?;
-    let b = make.make_expr(5, false, false, r1)?.tree;
-    let c = make.make_expr(5, false, false, r3)?.tree;
+    let second = make.make_expr(5, false, false, r1);
+    let third = make.make_expr(5, false, false, r3);
+    let (b, c) = two_exprs(second, third)?.tree;
     Ok(Piece {
         tree: Suffix::FullSlice(None, b, c, q),
         rest: r5,
@@ -309,8 +316,8 @@ fn build_slice_expr<'a, M: Maker>(
     let r3 = mark(Operator::Colon, f2.rest).ok_or(Stop::Absent)?;
     let f4 = bound(r3).ok_or(Stop::Absent)?;
     let (q, r5) = mark_span(Operator::RightBracket, f4.rest).ok_or(Stop::Absent)?;
-    let a = make.make_expr(5, false, false, r0)?.tree;
-    let b = bound_tree(make, r3)?.tree;
+    let first = make.make_expr(5, false, false, r0);
+    let (a, b) = expr_and_bound(first, bound_tree(make, r3))?.tree;
     Ok(Piece {
         tree: Suffix::Slice(Some(a), b, q),
         rest: r5,
@@ -331,8 +338,9 @@ fn build_full_slice_end<'a, M: Maker>(
     let r1 = mark(Operator::Colon, f0.rest).ok_or(Stop::Absent)?;
     let f2 = at_expr(5, false, r1).ok_or(Stop::Absent)?;
     let (q, r3) = mark_span(Operator::RightBracket, f2.rest).ok_or(Stop::Absent)?;
-    let b = make.make_expr(5, false, false, s)?.tree;
-    let c = make.make_expr(5, false, false, r1)?.tree;
+    let second = make.make_expr(5, false, false, s);
+    let third = make.make_expr(5, false, false, r1);
+    let (b, c) = two_exprs(second, third)?.tree;
     Ok(Piece {
         tree: (b, c, q),
         rest: r3,
@@ -356,11 +364,11 @@ fn build_full_slice<'a, M: Maker>(
     }
     let f2 = at_expr(5, false, r0).ok_or(Stop::Absent)?;
     let r3 = mark(Operator::Colon, f2.rest).ok_or(Stop::Absent)?;
-    let a = make.make_expr(5, false, false, r0)?.tree;
+    let first = make.make_expr(5, false, false, r0);
     let Piece {
-        tree: (b, c, q),
+        tree: (a, (b, c, q)),
         rest: r4,
-    } = build_full_slice_end(make, r3)?;
+    } = expr_and_slice(first, build_full_slice_end(make, r3))?;
     Ok(Piece {
         tree: Suffix::FullSlice(Some(a), b, c, q),
         rest: r4,
@@ -477,11 +485,11 @@ pub fn suffixes_tree<'a, M: Maker>(
     'turns: while found.len() <= s.tokens.len() {
         match suffixes_turn(alloc, make, rest) {
             Ok(Turn::More(item, more)) => {
-                found.push(item)?;
+                found = Listed::grown(found, item)?;
                 rest = more;
             }
             Ok(Turn::Last(item, more)) => {
-                found.push(item)?;
+                found = Listed::grown(found, item)?;
                 return Ok(Piece {
                     tree: found,
                     rest: more,
@@ -491,8 +499,12 @@ pub fn suffixes_tree<'a, M: Maker>(
                 tree: found,
                 rest: more,
             }),
-            Err(stop) => return Err(stop),
+            Err(stop) => {
+                Listed::let_go(found);
+                return Err(stop);
+            }
         }
     }
+    Listed::let_go(found);
     Err(Stop::Absent)
 }

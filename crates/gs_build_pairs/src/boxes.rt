@@ -3,7 +3,7 @@ ghost use Rattle.gs_build_pairs.specs.Pairs.{Holds, IsBoxed};
 
 use gs_build_base::copies::copy;
 use gs_build_base::pieces::{Piece, Stop};
-use gs_grammar::trees::{Expr, Signature, TypeExpr};
+use gs_grammar::trees::{Chunk, Expr, Signature, Stmt, TypeExpr};
 use gs_places::rest::Rest;
 use gs_syntax::token::Token;
 use sqlite_items::Boxed;
@@ -48,6 +48,26 @@ pub fn boxed_signature<'a>(
     alloc: Global,
     made: Result<Piece<'a, Signature>, Stop>,
 ) -> Result<Piece<'a, Boxed<Signature>>, Stop>
+    ensures { IsBoxed made.entry result }
+{
+    boxed(alloc, made)
+}
+
+/// The statement in a box.
+pub fn boxed_stmt<'a>(
+    alloc: Global,
+    made: Result<Piece<'a, Stmt>, Stop>,
+) -> Result<Piece<'a, Boxed<Stmt>>, Stop>
+    ensures { IsBoxed made.entry result }
+{
+    boxed(alloc, made)
+}
+
+/// The chunk in a box.
+pub fn boxed_chunk<'a>(
+    alloc: Global,
+    made: Result<Piece<'a, Chunk>, Stop>,
+) -> Result<Piece<'a, Boxed<Chunk>>, Stop>
     ensures { IsBoxed made.entry result }
 {
     boxed(alloc, made)

@@ -3,7 +3,8 @@ ghost use Rattle.gs_build_pairs.specs.Pairs.{IsPair};
 
 use gs_build_base::pieces::{Piece, Stop};
 use gs_grammar::trees::{
-    Arm, Block, Clause, Comm, Expr, RangeLeft, Simple, Stmt, TypeClause, TypeExpr,
+    Arm, Block, Clause, Comm, ElementValue, Expr, LiteralValue, Parameters, RangeLeft, Signature,
+    Simple, Stmt, Suffix, TypeClause, TypeExpr,
 };
 use gs_syntax::token::{Span, Token};
 use sqlite_items::{Boxed, Items};
@@ -250,4 +251,129 @@ pub fn name_and_stmt<'a>(
     ensures { IsPair one.entry two.entry result }
 {
     pair(one, two)
+}
+
+/// Parameters and results.
+pub fn two_params<'a>(
+    one: Result<Piece<'a, Parameters>, Stop>,
+    two: Result<Piece<'a, Parameters>, Stop>,
+) -> Result<Piece<'a, (Parameters, Parameters)>, Stop>
+    ensures { IsPair one.entry two.entry result }
+{
+    pair(one, two)
+}
+
+/// Parameters and one result.
+pub fn params_and_type<'a>(
+    one: Result<Piece<'a, Parameters>, Stop>,
+    two: Result<Piece<'a, TypeExpr>, Stop>,
+) -> Result<Piece<'a, (Parameters, TypeExpr)>, Stop>
+    ensures { IsPair one.entry two.entry result }
+{
+    pair(one, two)
+}
+
+/// A type and the values behind it.
+pub fn type_and_exprs<'a>(
+    one: Result<Piece<'a, TypeExpr>, Stop>,
+    two: Result<Piece<'a, Items<Expr>>, Stop>,
+) -> Result<Piece<'a, (TypeExpr, Items<Expr>)>, Stop>
+    ensures { IsPair one.entry two.entry result }
+{
+    pair(one, two)
+}
+
+/// A type and the braces of its literal.
+pub fn type_and_value<'a>(
+    one: Result<Piece<'a, TypeExpr>, Stop>,
+    two: Result<Piece<'a, LiteralValue>, Stop>,
+) -> Result<Piece<'a, (TypeExpr, LiteralValue)>, Stop>
+    ensures { IsPair one.entry two.entry result }
+{
+    pair(one, two)
+}
+
+/// A signature and the block of its literal.
+pub fn signature_and_block<'a>(
+    one: Result<Piece<'a, Signature>, Stop>,
+    two: Result<Piece<'a, Block>, Stop>,
+) -> Result<Piece<'a, (Signature, Block)>, Stop>
+    ensures { IsPair one.entry two.entry result }
+{
+    pair(one, two)
+}
+
+/// A signature and its body.
+pub fn signature_and_body<'a>(
+    one: Result<Piece<'a, Signature>, Stop>,
+    two: Result<Piece<'a, Option<Block>>, Stop>,
+) -> Result<Piece<'a, (Signature, Option<Block>)>, Stop>
+    ensures { IsPair one.entry two.entry result }
+{
+    pair(one, two)
+}
+
+/// A receiver and the rest of a method.
+pub fn params_and_method<'a>(
+    one: Result<Piece<'a, Parameters>, Stop>,
+    two: Result<Piece<'a, (Signature, Option<Block>)>, Stop>,
+) -> Result<Piece<'a, (Parameters, (Signature, Option<Block>))>, Stop>
+    ensures { IsPair one.entry two.entry result }
+{
+    pair(one, two)
+}
+
+/// An operand and what follows it.
+pub fn expr_and_suffixes<'a>(
+    one: Result<Piece<'a, Expr>, Stop>,
+    two: Result<Piece<'a, Items<Suffix>>, Stop>,
+) -> Result<Piece<'a, (Expr, Items<Suffix>)>, Stop>
+    ensures { IsPair one.entry two.entry result }
+{
+    pair(one, two)
+}
+
+/// An operand and the operators behind it.
+pub fn expr_and_operands<'a>(
+    one: Result<Piece<'a, Expr>, Stop>,
+    two: Result<Piece<'a, Items<(Token, Expr)>>, Stop>,
+) -> Result<Piece<'a, (Expr, Items<(Token, Expr)>)>, Stop>
+    ensures { IsPair one.entry two.entry result }
+{
+    pair(one, two)
+}
+
+/// A key and its value.
+pub fn two_values<'a>(
+    one: Result<Piece<'a, ElementValue>, Stop>,
+    two: Result<Piece<'a, ElementValue>, Stop>,
+) -> Result<Piece<'a, (ElementValue, ElementValue)>, Stop>
+    ensures { IsPair one.entry two.entry result }
+{
+    pair(one, two)
+}
+
+/// Both bounds of a slice.
+pub fn expr_and_bound<'a>(
+    one: Result<Piece<'a, Expr>, Stop>,
+    two: Result<Piece<'a, Option<Expr>>, Stop>,
+) -> Result<Piece<'a, (Expr, Option<Expr>)>, Stop>
+    ensures { IsPair one.entry two.entry result }
+{
+    pair(one, two)
+}
+
+/// The first bound of a slice and the rest of it.
+pub fn expr_and_slice<'a>(
+    one: Result<Piece<'a, Expr>, Stop>,
+    two: Result<Piece<'a, (Expr, Expr, Span)>, Stop>,
+) -> Result<Piece<'a, (Expr, (Expr, Expr, Span))>, Stop>
+    ensures { IsPair one.entry two.entry result }
+{
+    pair(one, two)
+}
+
+/// Lets the parameters go.
+pub fn let_params_go(params: Parameters) {
+    let _gone = params;
 }

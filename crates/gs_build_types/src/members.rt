@@ -11,6 +11,8 @@ use gs_build_base::here::idents_here;
 use gs_build_base::maker::Maker;
 use gs_build_base::names::{idents_from, tag_tree, type_name_tree};
 use gs_build_base::pieces::{Piece, Stop, Turn};
+use gs_build_pairs::boxes::boxed_type;
+use gs_build_pairs::lists::Listed;
 use gs_grammar::trees::{Field, Member, TypeExpr};
 use gs_places::at::at_type;
 use gs_places::front::{embed_end, is_mark, mark, selector, semi};
@@ -22,7 +24,7 @@ use gs_rows_types::members::{
 };
 use gs_rows_types::types::type_name;
 use gs_syntax::token::{Operator, Token};
-use sqlite_items::{Boxed, Items};
+use sqlite_items::Items;
 use std::alloc::Global;
 
 /// The form `named_field` of the field.
@@ -47,9 +49,9 @@ fn build_named_field<'a, M: Maker>(
         return Err(Stop::Absent);
     }
     let f3 = at_type(f0.rest).ok_or(Stop::Absent)?;
+    let Piece { tree: z, rest: r4 } = tag_tree(alloc, f3.rest)?;
     let xs = idents_from(alloc, place, x, s)?.tree;
     let t = make.make_type(f0.rest)?.tree;
-    let Piece { tree: z, rest: r4 } = tag_tree(alloc, f3.rest)?;
     Ok(Piece {
         tree: Field::Named(xs, t, z),
         rest: r4,
@@ -108,8 +110,8 @@ fn build_pointer_field<'a>(
 {
     let (p, r0) = first_mark_span(Operator::Star, x, s).ok_or(Stop::Absent)?;
     let f1 = type_name(r0).ok_or(Stop::Absent)?;
-    let t = Boxed::new(alloc, type_name_tree(alloc, r0)?.tree)?;
     let Piece { tree: z, rest: r2 } = tag_tree(alloc, f1.rest)?;
+    let t = boxed_type(alloc, type_name_tree(alloc, r0))?.tree;
     Ok(Piece {
         tree: Field::Embedded(TypeExpr::Pointer(p, t), z),
         rest: r2,
@@ -220,11 +222,11 @@ pub fn fields_tree<'a, M: Maker>(
     'turns: while found.len() <= s.tokens.len() {
         match fields_turn(alloc, make, rest) {
             Ok(Turn::More(item, more)) => {
-                found.push(item)?;
+                found = Listed::grown(found, item)?;
                 rest = more;
             }
             Ok(Turn::Last(item, more)) => {
-                found.push(item)?;
+                found = Listed::grown(found, item)?;
                 return Ok(Piece {
                     tree: found,
                     rest: more,
@@ -234,9 +236,13 @@ pub fn fields_tree<'a, M: Maker>(
                 tree: found,
                 rest: more,
             }),
-            Err(stop) => return Err(stop),
+            Err(stop) => {
+                Listed::let_go(found);
+                return Err(stop);
+            }
         }
     }
+    Listed::let_go(found);
     Err(Stop::Absent)
 }
 
@@ -402,11 +408,11 @@ pub fn members_tree<'a, M: Maker>(
     'turns: while found.len() <= s.tokens.len() {
         match members_turn(alloc, make, rest) {
             Ok(Turn::More(item, more)) => {
-                found.push(item)?;
+                found = Listed::grown(found, item)?;
                 rest = more;
             }
             Ok(Turn::Last(item, more)) => {
-                found.push(item)?;
+                found = Listed::grown(found, item)?;
                 return Ok(Piece {
                     tree: found,
                     rest: more,
@@ -416,8 +422,12 @@ pub fn members_tree<'a, M: Maker>(
                 tree: found,
                 rest: more,
             }),
-            Err(stop) => return Err(stop),
+            Err(stop) => {
+                Listed::let_go(found);
+                return Err(stop);
+            }
         }
     }
+    Listed::let_go(found);
     Err(Stop::Absent)
 }

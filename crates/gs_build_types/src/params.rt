@@ -10,6 +10,8 @@ use gs_build_base::maker::{Maker, type_made};
 use gs_build_base::names::idents_from;
 use gs_build_base::parts::is_single;
 use gs_build_base::pieces::{Piece, Stop, Turn};
+use gs_build_pairs::lists::Listed;
+use gs_build_pairs::pairs::{params_and_type, two_params};
 use gs_grammar::trees::{Parameter, Parameters, Signature};
 use gs_places::at::{at_named_params, at_type, at_unnamed};
 use gs_places::front::{mark, trail};
@@ -124,11 +126,11 @@ pub fn unnamed_tree<'a, M: Maker>(
     'turns: while found.len() <= s.tokens.len() {
         match unnamed_turn(make, dots, rest) {
             Ok(Turn::More(item, more)) => {
-                found.push(item)?;
+                found = Listed::grown(found, item)?;
                 rest = more;
             }
             Ok(Turn::Last(item, more)) => {
-                found.push(item)?;
+                found = Listed::grown(found, item)?;
                 return Ok(Piece {
                     tree: found,
                     rest: more,
@@ -138,9 +140,13 @@ pub fn unnamed_tree<'a, M: Maker>(
                 tree: found,
                 rest: more,
             }),
-            Err(stop) => return Err(stop),
+            Err(stop) => {
+                Listed::let_go(found);
+                return Err(stop);
+            }
         }
     }
+    Listed::let_go(found);
     Err(Stop::Absent)
 }
 
@@ -267,11 +273,11 @@ pub fn named_params_tree<'a, M: Maker>(
     'turns: while found.len() <= s.tokens.len() {
         match named_params_turn(alloc, make, dots, rest) {
             Ok(Turn::More(item, more)) => {
-                found.push(item)?;
+                found = Listed::grown(found, item)?;
                 rest = more;
             }
             Ok(Turn::Last(item, more)) => {
-                found.push(item)?;
+                found = Listed::grown(found, item)?;
                 return Ok(Piece {
                     tree: found,
                     rest: more,
@@ -281,9 +287,13 @@ pub fn named_params_tree<'a, M: Maker>(
                 tree: found,
                 rest: more,
             }),
-            Err(stop) => return Err(stop),
+            Err(stop) => {
+                Listed::let_go(found);
+                return Err(stop);
+            }
         }
     }
+    Listed::let_go(found);
     Err(Stop::Absent)
 }
 
@@ -424,8 +434,12 @@ fn build_results<'a, M: Maker>(
     if mark(Operator::LeftParen, f0.rest).is_none() {
         return Err(Stop::Absent);
     }
-    let ps = params_from(alloc, make, true, x, s)?.tree;
-    let Piece { tree: qs, rest: r2 } = params_tree(alloc, make, false, f0.rest)?;
+    let params = params_from(alloc, make, true, x, s);
+    let results = params_tree(alloc, make, false, f0.rest);
+    let Piece {
+        tree: (ps, qs),
+        rest: r2,
+    } = two_params(params, results)?;
     Ok(Piece {
         tree: Signature::Results(ps, qs),
         rest: r2,
@@ -448,8 +462,12 @@ fn build_result<'a, M: Maker>(
     if mark(Operator::LeftParen, f0.rest).is_some() {
         return Err(Stop::Absent);
     }
-    let ps = params_from(alloc, make, true, x, s)?.tree;
-    let Piece { tree: t, rest: r2 } = make.make_type(f0.rest)?;
+    let params = params_from(alloc, make, true, x, s);
+    let result = make.make_type(f0.rest);
+    let Piece {
+        tree: (ps, t),
+        rest: r2,
+    } = params_and_type(params, result)?;
     Ok(Piece {
         tree: Signature::Result(ps, t),
         rest: r2,

@@ -1,5 +1,4 @@
 //! Trees of types.
-ghost use Rattle.std.specs.Prelude.{◌≡◌};
 ghost use Rattle.gs_grammar.specs.Steps as steps;
 ghost use Rattle.gs_places.specs.Places.{stands};
 ghost use Rattle.gs_build_base.specs.Pieces.{Builds};
