@@ -1,7 +1,7 @@
 -- The report of an input, from its faults.
 use Rattle.std.proofs.Common.{◌≡◌, ◌≢◌, ℕ, ◌==◌, ◌↔◌, Bool, IsTrue, true, false, List, [], ◌∷◌, length, arith, sym, refl, ◌∙◌, ap, subst}
 use Rattle.gs_syntax.specs.declared.token.Span.{Span}
-use Rattle.gs_parse.specs.Files.{HasFaults}
+use Rattle.gs_chunks.specs.Files.{HasFaults}
 use Rattle.gs_rules.specs.declared.fault.Fault.{Fault}
 use Rattle.gs_rules.specs.Faults.{form_faults, right_faults}
 use Rattle.gs_rules.specs.Files.{declarations_of, lookup_of}

@@ -2,7 +2,7 @@
 use Rattle.std.specs.Prelude.{◌≡◌, ◌≢◌, ◌↔◌, ℕ, List, [], Option, Some, None, IsTrue, codes}
 use Rattle.gs_syntax.specs.declared.token.Token.{Token}
 use Rattle.gs_grammar.specs.declared.trees.FileTree.{FileTree}
-use Rattle.gs_parse.specs.Files.{IsFileTree}
+use Rattle.gs_chunks.specs.Files.{IsFileTree}
 use Rattle.gs_rules.specs.declared.fault.Fault.{Fault}
 use Rattle.gs_rules.specs.Faults.{form_faults, right_faults}
 use Rattle.gs_rules.specs.Files.{declarations_of, lookup_of}

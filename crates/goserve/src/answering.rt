@@ -2,7 +2,7 @@
 
 ghost use Rattle.std.specs.Prelude.{◌≡◌, ◌≢◌, ◌≤◌, [], length, IfOk};
 ghost use Rattle.gs_syntax.specs.Tokens.{AreTokens};
-ghost use Rattle.gs_parse.specs.Files.{HasFaults};
+ghost use Rattle.gs_chunks.specs.Files.{HasFaults};
 ghost use Rattle.goserve.specs.Answers.{AreFaults, HasAnswered, IsReport, IsWellFormed};
 ghost use Rattle.goserve.specs.FirstForm.{IsPlainText};
 ghost use Rattle.goserve.specs.Moves.{most_input};
@@ -11,8 +11,8 @@ use crate::file::{declarations_of, form_faults, right_faults};
 use crate::form::{have_form, names_of, plain_text};
 use crate::line::output;
 use gs_base::Mem;
-use gs_parse::faults::faults;
-use gs_parse::laws::few_tokens;
+use gs_chunks::faults::faults;
+use gs_chunks::laws::few_tokens;
 use gs_rules::fault::Fault;
 use gs_scan::chunk::chunks;
 use gs_scan::scan::scan;

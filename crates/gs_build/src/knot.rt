@@ -2,7 +2,7 @@
 //!
 //! A function that builds a form is never inlined, here and in the crates of the builders: so a level of nesting takes the
 //! frames of its own forms on the stack, and no room for what other forms would hold.
-ghost use Rattle.std.specs.Prelude.{◌≡◌, ◌≤◌};
+ghost use Rattle.std.specs.Prelude.{◌≤◌};
 ghost use Rattle.gs_build.specs.Makes.{Faithful, Makes};
 ghost use Rattle.gs_build.specs.declared.want.Want.TheVariants as want;
 
@@ -15,6 +15,7 @@ use gs_build_expr::elements::elements_tree;
 use gs_build_expr::exprs::{expr_tree, exprs_tree};
 use gs_build_operands::literals::block_tree;
 use gs_build_operands::operands::{primary_tree, unary_tree};
+use gs_build_pairs::boxes::{boxed_chunk, boxed_stmt};
 use gs_build_stmts::stmts::{stmt_tree, stmts_tree};
 use gs_build_types::params::{params_tree, signature_tree};
 use gs_build_types::types::type_tree;
@@ -309,9 +310,9 @@ fn tie_stmt<'a, M: Maker>(alloc: Global, make: &M, s: Rest<'a>) -> Result<Piece<
     requires faithful { M.is_faithful make.now }
     ensures { Makes want.Statement s.entry result }
 {
-    let Piece { tree, rest } = stmt_tree(alloc, make, s)?;
+    let Piece { tree, rest } = boxed_stmt(alloc, stmt_tree(alloc, make, s))?;
     Ok(Piece {
-        tree: Made::Statement(Boxed::new(alloc, tree)?),
+        tree: Made::Statement(tree),
         rest,
     })
 }
@@ -335,9 +336,9 @@ fn tie_chunk<'a, M: Maker>(alloc: Global, make: &M, s: Rest<'a>) -> Result<Piece
     requires faithful { M.is_faithful make.now }
     ensures { Makes want.Chunk s.entry result }
 {
-    let Piece { tree, rest } = chunk_tree(alloc, make, s)?;
+    let Piece { tree, rest } = boxed_chunk(alloc, chunk_tree(alloc, make, s))?;
     Ok(Piece {
-        tree: Made::Chunk(Boxed::new(alloc, tree)?),
+        tree: Made::Chunk(tree),
         rest,
     })
 }

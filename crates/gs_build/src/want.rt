@@ -28,7 +28,6 @@ pub enum Want {
 }
 
 /// The tree that was made.
-#[derive(Drop)]
 pub enum Made {
     Type(TypeExpr),
     Signature(Signature),

@@ -1,5 +1,5 @@
 //! The trees that stand at a place of a file.
-ghost use Rattle.std.specs.Prelude.{◌≡◌, false};
+ghost use Rattle.std.specs.Prelude.{false};
 ghost use Rattle.gs_places.specs.Places.{stands};
 ghost use Rattle.gs_build_base.specs.Pieces.{Builds};
 

@@ -119,12 +119,12 @@ fn build_function<'a, M: Maker>(
     let (name, r1) = name_token(r0).ok_or(Stop::Absent)?;
     let f2 = signature(r1).ok_or(Stop::Absent)?;
     let name = copy(alloc, name)?;
-    let signature = make.make_signature(r1);
+    let made = make.make_signature(r1);
     let body = body_tree(make, f2.rest);
     let Piece {
         tree: (z, o),
         rest: r3,
-    } = signature_and_body(signature, body)?;
+    } = signature_and_body(made, body)?;
     Ok(Piece {
         tree: Top::Function(p, name, z, o),
         rest: r3,
@@ -142,8 +142,8 @@ fn build_method_decl_end<'a, M: Maker>(
     ensures { Gives result (tail_of_method_decl s.entry.tokens.now) }
 {
     let f0 = signature(s).ok_or(Stop::Absent)?;
-    let signature = make.make_signature(s);
-    signature_and_body(signature, body_tree(make, f0.rest))
+    let made = make.make_signature(s);
+    signature_and_body(made, body_tree(make, f0.rest))
 }
 
 /// The form `method_decl` of the top-level declaration.

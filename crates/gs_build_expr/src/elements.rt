@@ -9,6 +9,8 @@ use gs_build_base::front::{first_mark_span, mark_span};
 use gs_build_base::here::expr_here;
 use gs_build_base::maker::Maker;
 use gs_build_base::pieces::{Piece, Stop, Turn};
+use gs_build_pairs::lists::Listed;
+use gs_build_pairs::pairs::two_values;
 use gs_grammar::trees::{Element, ElementValue, LiteralValue};
 use gs_places::at::at_elements;
 use gs_places::front::{is_mark, mark, trail};
@@ -142,8 +144,12 @@ fn build_keyed_element<'a, M: Maker>(
 {
     let f0 = value_by(expr_here(5, false, place, x, s), x, s).ok_or(Stop::Absent)?;
     let r1 = mark(Operator::Colon, f0.rest).ok_or(Stop::Absent)?;
-    let a = value_from(alloc, make, place, x, s)?.tree;
-    let Piece { tree: b, rest: r2 } = value_tree(alloc, make, r1)?;
+    let key = value_from(alloc, make, place, x, s);
+    let value = value_tree(alloc, make, r1);
+    let Piece {
+        tree: (a, b),
+        rest: r2,
+    } = two_values(key, value)?;
     Ok(Piece {
         tree: Element::Keyed(a, b),
         rest: r2,
@@ -257,11 +263,11 @@ pub fn elements_tree<'a, M: Maker>(
     'turns: while found.len() <= s.tokens.len() {
         match elements_turn(alloc, make, rest) {
             Ok(Turn::More(item, more)) => {
-                found.push(item)?;
+                found = Listed::grown(found, item)?;
                 rest = more;
             }
             Ok(Turn::Last(item, more)) => {
-                found.push(item)?;
+                found = Listed::grown(found, item)?;
                 return Ok(Piece {
                     tree: found,
                     rest: more,
@@ -271,8 +277,12 @@ pub fn elements_tree<'a, M: Maker>(
                 tree: found,
                 rest: more,
             }),
-            Err(stop) => return Err(stop),
+            Err(stop) => {
+                Listed::let_go(found);
+                return Err(stop);
+            }
         }
     }
+    Listed::let_go(found);
     Err(Stop::Absent)
 }

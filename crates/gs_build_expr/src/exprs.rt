@@ -1,6 +1,5 @@
 //! Trees of expressions.
-ghost use Rattle.std.specs.Prelude.{◌≡◌, ◌≤◌, ◌∷◌, suc, IfOk};
-ghost use Rattle.gs_grammar.specs.Parts as spec;
+ghost use Rattle.std.specs.Prelude.{◌≡◌, ◌≤◌, ◌∷◌, suc};
 ghost use Rattle.gs_grammar.specs.Steps as steps;
 ghost use Rattle.gs_places.specs.Places.{stands};
 ghost use Rattle.gs_build_base.specs.Pieces.{Builds, Turns};
@@ -10,25 +9,17 @@ use gs_build_base::here::expr_here;
 use gs_build_base::maker::Maker;
 use gs_build_base::pieces::{Piece, Stop, Turn};
 use gs_build_operands::operands::unary_from;
+use gs_build_pairs::lists::Listed;
+use gs_build_pairs::nodes::with_operands;
+use gs_build_pairs::pairs::expr_and_operands;
 use gs_grammar::trees::Expr;
 use gs_places::classes::is_binary;
 use gs_places::front::mark;
 use gs_places::rest::Rest;
 use gs_rows_expr::lists::{operand_by, read_one_expr};
 use gs_syntax::token::{Operator, Token};
-use sqlite_items::{Boxed, Items};
-use std::alloc::{AllocError, Global};
-
-/// The operand with operators of one precedence and their right operands.
-fn with_operands(alloc: Global, t: Expr, os: Items<(Token, Expr)>) -> Result<Expr, AllocError>
-    ensures { IfOk result (λ e. e ≡ spec.binary t os) }
-{
-    if os.is_empty() {
-        Ok(t)
-    } else {
-        Ok(Expr::Binary(Boxed::new(alloc, t)?, os))
-    }
-}
+use sqlite_items::Items;
+use std::alloc::Global;
 
 /// The expression with one more precedence of operators outside brackets.
 #[tactic(auto, unfolding(gs_grammar::specs::Steps::expr_step))]
@@ -47,8 +38,12 @@ fn looser<'a, M: Maker>(
     requires tighter { Builds tighter (steps.expr_step s.tokens.now stands level header first x.now) }
     ensures { Builds result (steps.expr_step s.entry.tokens.now stands (suc level) header first x.now) }
 {
-    let Piece { tree: t, rest: r0 } = tighter?;
-    let Piece { tree: os, rest: r1 } = operands_tree(alloc, make, level, header, r0)?;
+    let tighter = tighter?;
+    let operands = operands_tree(alloc, make, level, header, tighter.rest);
+    let Piece {
+        tree: (t, os),
+        rest: r1,
+    } = expr_and_operands(Ok(tighter), operands)?;
     Ok(Piece {
         tree: with_operands(alloc, t, os)?,
         rest: r1,
@@ -222,11 +217,11 @@ pub fn operands_tree<'a, M: Maker>(
     'turns: while found.len() <= s.tokens.len() {
         match operands_turn(alloc, make, level, header, rest) {
             Ok(Turn::More(item, more)) => {
-                found.push(item)?;
+                found = Listed::grown(found, item)?;
                 rest = more;
             }
             Ok(Turn::Last(item, more)) => {
-                found.push(item)?;
+                found = Listed::grown(found, item)?;
                 return Ok(Piece {
                     tree: found,
                     rest: more,
@@ -236,9 +231,13 @@ pub fn operands_tree<'a, M: Maker>(
                 tree: found,
                 rest: more,
             }),
-            Err(stop) => return Err(stop),
+            Err(stop) => {
+                Listed::let_go(found);
+                return Err(stop);
+            }
         }
     }
+    Listed::let_go(found);
     Err(Stop::Absent)
 }
 
@@ -321,11 +320,11 @@ pub fn exprs_tree<'a, M: Maker>(
     'turns: while found.len() <= s.tokens.len() {
         match exprs_turn(alloc, make, header, rest) {
             Ok(Turn::More(item, more)) => {
-                found.push(item)?;
+                found = Listed::grown(found, item)?;
                 rest = more;
             }
             Ok(Turn::Last(item, more)) => {
-                found.push(item)?;
+                found = Listed::grown(found, item)?;
                 return Ok(Piece {
                     tree: found,
                     rest: more,
@@ -335,9 +334,13 @@ pub fn exprs_tree<'a, M: Maker>(
                 tree: found,
                 rest: more,
             }),
-            Err(stop) => return Err(stop),
+            Err(stop) => {
+                Listed::let_go(found);
+                return Err(stop);
+            }
         }
     }
+    Listed::let_go(found);
     Err(Stop::Absent)
 }
 

@@ -304,11 +304,11 @@ fn build_function_literal<'a, M: Maker>(
 {
     let (p, r0) = first_word_span(Keyword::Func, x, s).ok_or(Stop::Absent)?;
     let f1 = signature(r0).ok_or(Stop::Absent)?;
-    let signature = make.make_signature(r0);
+    let made = make.make_signature(r0);
     let Piece {
         tree: (z, b),
         rest: r2,
-    } = signature_and_block(signature, block_tree(make, f1.rest))?;
+    } = signature_and_block(made, block_tree(make, f1.rest))?;
     Ok(Piece {
         tree: function(alloc, p, z, b)?,
         rest: r2,

@@ -1,15 +1,8 @@
 -- What comes of pieces that are put together.
-use Rattle.std.specs.Prelude.{◌≡◌, List, [], ◌∷◌, ◌++◌, Result, Ok, Err}
-use Rattle.gs_places.specs.declared.rest.Rest.{Rest}
+use Rattle.std.specs.Prelude.{◌≡◌, Result, Ok, Err}
 use Rattle.gs_build_base.specs.declared.pieces.Piece.{Piece}
 use Rattle.gs_build_base.specs.declared.pieces.Stop.{Stop}
 use Rattle.gs_build_base.specs.declared.pieces.Stop.TheVariants as stop
-
--- this tree before these tokens, unless memory runs out
-abbrev pub Holds : {A : Type 0} → A → Rest → Result (Piece A) Stop → Type 0
-Holds t rest (Ok p) = p ≡ record { tree = t; rest = rest }
-Holds t rest (Err stop.NoMemory) = Unit {0}
-Holds t rest (Err stop.Absent) = ⊥
 
 -- the same tree in a box, unless memory runs out
 abbrev pub IsBoxed : {A : Type 0} → Result (Piece A) Stop → Result (Piece A) Stop → Type 0
@@ -22,18 +15,6 @@ abbrev pub IsPair : {A B : Type 0} → Result (Piece A) Stop → Result (Piece B
 IsPair (Err e) two r = r ≡ Err e
 IsPair (Ok p) (Err e) r = r ≡ Err e
 IsPair (Ok p) (Ok q) r = r ≡ Ok (record { tree = (p.tree, q.tree); rest = q.rest })
-
--- the list with the item at its end, unless memory runs out
-abbrev pub IsGrown : {A : Type 0} → List A → A → Result (List A) Stop → Type 0
-IsGrown xs x (Ok ys) = ys ≡ xs ++ x ∷ []
-IsGrown xs x (Err stop.NoMemory) = Unit {0}
-IsGrown xs x (Err stop.Absent) = ⊥
-
--- the same, with what follows the list
-abbrev pub IsGrownTo : {A E : Type 0} → List A → A → E → Result (List A × E) Stop → Type 0
-IsGrownTo xs x e (Ok p) = p ≡ (xs ++ x ∷ [], e)
-IsGrownTo xs x e (Err stop.NoMemory) = Unit {0}
-IsGrownTo xs x e (Err stop.Absent) = ⊥
 
 -- this, unless memory runs out
 abbrev pub IsMade : {A : Type 0} → A → Result A Stop → Type 0

@@ -1,5 +1,5 @@
 //! Trees in boxes, and tokens as trees.
-ghost use Rattle.gs_build_pairs.specs.Pairs.{Holds, IsBoxed};
+ghost use Rattle.gs_build_pairs.specs.Pairs.{IsBoxed, IsMade};
 
 use gs_build_base::copies::copy;
 use gs_build_base::pieces::{Piece, Stop};
@@ -75,7 +75,7 @@ pub fn boxed_chunk<'a>(
 
 /// A copy of the token, before these tokens.
 pub fn token<'a>(alloc: Global, x: &Token, rest: Rest<'a>) -> Result<Piece<'a, Token>, Stop>
-    ensures { Holds x.now rest.entry result }
+    ensures { IsMade (record { tree = x.now; rest = rest.entry }) result }
 {
     Ok(Piece {
         tree: copy(alloc, x)?,

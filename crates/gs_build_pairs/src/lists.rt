@@ -1,5 +1,6 @@
 //! Trees that stand in lists: their lists grow here and are let go here, so no other crate proves how each tree is let go.
-ghost use Rattle.gs_build_pairs.specs.Pairs.{IsGrown, IsGrownTo};
+ghost use Rattle.std.specs.Prelude.{[], ◌∷◌, ◌++◌};
+ghost use Rattle.gs_build_pairs.specs.Pairs.{IsMade};
 
 use gs_build_base::pieces::Stop;
 use gs_grammar::trees::{
@@ -13,14 +14,14 @@ use sqlite_items::Items;
 pub trait Listed: Sized {
     /// The list, with the item at its end. Both are let go where memory runs out.
     fn grown(found: Items<Self>, item: Self) -> Result<Items<Self>, Stop>
-        ensures { IsGrown found item result };
+        ensures { IsMade (found ++ item ∷ []) result };
 
     /// Lets the list go.
     fn let_go(found: Items<Self>);
 }
 
 fn grown_by<T: Drop>(found: Items<T>, item: T) -> Result<Items<T>, Stop>
-    ensures { IsGrown found item result }
+    ensures { IsMade (found ++ item ∷ []) result }
 {
     let mut found = found;
     found.push(item)?;
@@ -29,7 +30,7 @@ fn grown_by<T: Drop>(found: Items<T>, item: T) -> Result<Items<T>, Stop>
 
 impl Listed for Arm {
     fn grown(found: Items<Arm>, item: Arm) -> Result<Items<Arm>, Stop>
-        ensures { IsGrown found item result }
+        ensures { IsMade (found ++ item ∷ []) result }
     {
         grown_by(found, item)
     }
@@ -41,7 +42,7 @@ impl Listed for Arm {
 
 impl Listed for Clause {
     fn grown(found: Items<Clause>, item: Clause) -> Result<Items<Clause>, Stop>
-        ensures { IsGrown found item result }
+        ensures { IsMade (found ++ item ∷ []) result }
     {
         grown_by(found, item)
     }
@@ -53,7 +54,7 @@ impl Listed for Clause {
 
 impl Listed for CommClause {
     fn grown(found: Items<CommClause>, item: CommClause) -> Result<Items<CommClause>, Stop>
-        ensures { IsGrown found item result }
+        ensures { IsMade (found ++ item ∷ []) result }
     {
         grown_by(found, item)
     }
@@ -65,7 +66,7 @@ impl Listed for CommClause {
 
 impl Listed for ConstSpec {
     fn grown(found: Items<ConstSpec>, item: ConstSpec) -> Result<Items<ConstSpec>, Stop>
-        ensures { IsGrown found item result }
+        ensures { IsMade (found ++ item ∷ []) result }
     {
         grown_by(found, item)
     }
@@ -77,7 +78,7 @@ impl Listed for ConstSpec {
 
 impl Listed for Element {
     fn grown(found: Items<Element>, item: Element) -> Result<Items<Element>, Stop>
-        ensures { IsGrown found item result }
+        ensures { IsMade (found ++ item ∷ []) result }
     {
         grown_by(found, item)
     }
@@ -89,7 +90,7 @@ impl Listed for Element {
 
 impl Listed for Expr {
     fn grown(found: Items<Expr>, item: Expr) -> Result<Items<Expr>, Stop>
-        ensures { IsGrown found item result }
+        ensures { IsMade (found ++ item ∷ []) result }
     {
         grown_by(found, item)
     }
@@ -101,7 +102,7 @@ impl Listed for Expr {
 
 impl Listed for Field {
     fn grown(found: Items<Field>, item: Field) -> Result<Items<Field>, Stop>
-        ensures { IsGrown found item result }
+        ensures { IsMade (found ++ item ∷ []) result }
     {
         grown_by(found, item)
     }
@@ -113,7 +114,7 @@ impl Listed for Field {
 
 impl Listed for Member {
     fn grown(found: Items<Member>, item: Member) -> Result<Items<Member>, Stop>
-        ensures { IsGrown found item result }
+        ensures { IsMade (found ++ item ∷ []) result }
     {
         grown_by(found, item)
     }
@@ -125,7 +126,7 @@ impl Listed for Member {
 
 impl Listed for Parameter {
     fn grown(found: Items<Parameter>, item: Parameter) -> Result<Items<Parameter>, Stop>
-        ensures { IsGrown found item result }
+        ensures { IsMade (found ++ item ∷ []) result }
     {
         grown_by(found, item)
     }
@@ -137,7 +138,7 @@ impl Listed for Parameter {
 
 impl Listed for Stmt {
     fn grown(found: Items<Stmt>, item: Stmt) -> Result<Items<Stmt>, Stop>
-        ensures { IsGrown found item result }
+        ensures { IsMade (found ++ item ∷ []) result }
     {
         grown_by(found, item)
     }
@@ -149,7 +150,7 @@ impl Listed for Stmt {
 
 impl Listed for Suffix {
     fn grown(found: Items<Suffix>, item: Suffix) -> Result<Items<Suffix>, Stop>
-        ensures { IsGrown found item result }
+        ensures { IsMade (found ++ item ∷ []) result }
     {
         grown_by(found, item)
     }
@@ -161,7 +162,7 @@ impl Listed for Suffix {
 
 impl Listed for TypeClause {
     fn grown(found: Items<TypeClause>, item: TypeClause) -> Result<Items<TypeClause>, Stop>
-        ensures { IsGrown found item result }
+        ensures { IsMade (found ++ item ∷ []) result }
     {
         grown_by(found, item)
     }
@@ -173,7 +174,7 @@ impl Listed for TypeClause {
 
 impl Listed for TypeExpr {
     fn grown(found: Items<TypeExpr>, item: TypeExpr) -> Result<Items<TypeExpr>, Stop>
-        ensures { IsGrown found item result }
+        ensures { IsMade (found ++ item ∷ []) result }
     {
         grown_by(found, item)
     }
@@ -185,7 +186,7 @@ impl Listed for TypeExpr {
 
 impl Listed for TypeSpec {
     fn grown(found: Items<TypeSpec>, item: TypeSpec) -> Result<Items<TypeSpec>, Stop>
-        ensures { IsGrown found item result }
+        ensures { IsMade (found ++ item ∷ []) result }
     {
         grown_by(found, item)
     }
@@ -197,7 +198,7 @@ impl Listed for TypeSpec {
 
 impl Listed for VarSpec {
     fn grown(found: Items<VarSpec>, item: VarSpec) -> Result<Items<VarSpec>, Stop>
-        ensures { IsGrown found item result }
+        ensures { IsMade (found ++ item ∷ []) result }
     {
         grown_by(found, item)
     }
@@ -209,7 +210,7 @@ impl Listed for VarSpec {
 
 impl Listed for (Token, Expr) {
     fn grown(found: Items<(Token, Expr)>, item: (Token, Expr)) -> Result<Items<(Token, Expr)>, Stop>
-        ensures { IsGrown found item result }
+        ensures { IsMade (found ++ item ∷ []) result }
     {
         grown_by(found, item)
     }
@@ -225,7 +226,7 @@ pub fn last_arm(
     item: Arm,
     end: Option<Block>,
 ) -> Result<(Items<Arm>, Option<Block>), Stop>
-    ensures { IsGrownTo found item end result }
+    ensures { IsMade (found ++ item ∷ [], end) result }
 {
     let mut found = found;
     found.push(item)?;

@@ -17,6 +17,8 @@ use gs_build_base::pieces::{Piece, Stop, Turn};
 use gs_build_clauses::parts::{target_tree, values_tree};
 use gs_build_clauses::simples::simple_from;
 use gs_build_pairs::boxes::token;
+use gs_build_pairs::lists::Listed;
+use gs_build_pairs::nodes::labeled;
 use gs_build_pairs::pairs::name_and_stmt;
 use gs_grammar::trees::{Simple, Stmt};
 use gs_places::classes::{is_decl_start, is_list_end, is_semi};
@@ -32,7 +34,7 @@ use gs_rows::stmts::{
 };
 use gs_rows_decls::decls::decl_by;
 use gs_syntax::token::{Keyword, Operator, Token};
-use sqlite_items::{Boxed, Items};
+use sqlite_items::Items;
 use std::alloc::Global;
 
 /// The form `simple_stmt` of the statement.
@@ -96,10 +98,7 @@ fn build_bare_label<'a>(alloc: Global, x: &'a Token, s: Rest<'a>) -> Result<Piec
         return Err(Stop::Absent);
     }
     Ok(Piece {
-        tree: Stmt::Labeled(
-            copy(alloc, name)?,
-            Boxed::new(alloc, Stmt::Simple(Simple::Empty))?,
-        ),
+        tree: labeled(alloc, copy(alloc, name)?, Stmt::Simple(Simple::Empty))?,
         rest: r1,
     })
 }
@@ -427,11 +426,11 @@ pub fn stmts_tree<'a, M: Maker>(
     'turns: while found.len() <= s.tokens.len() {
         match stmts_turn(alloc, make, rest) {
             Ok(Turn::More(item, more)) => {
-                found.push(item)?;
+                found = Listed::grown(found, item)?;
                 rest = more;
             }
             Ok(Turn::Last(item, more)) => {
-                found.push(item)?;
+                found = Listed::grown(found, item)?;
                 return Ok(Piece {
                     tree: found,
                     rest: more,
@@ -441,8 +440,12 @@ pub fn stmts_tree<'a, M: Maker>(
                 tree: found,
                 rest: more,
             }),
-            Err(stop) => return Err(stop),
+            Err(stop) => {
+                Listed::let_go(found);
+                return Err(stop);
+            }
         }
     }
+    Listed::let_go(found);
     Err(Stop::Absent)
 }

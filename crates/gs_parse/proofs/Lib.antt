@@ -1,10 +1,1 @@
-mod Classes
-mod DocExamples
-mod Fewness
-mod Judging
-mod Lines
-mod Offsets
-mod OneTree
-mod Texts
-mod Verdicts
-mod Walking
+mod Trees

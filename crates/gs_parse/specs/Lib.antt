@@ -1,5 +1,1 @@
-pub mod Verdicts
-pub mod Docs
-pub mod Files
-pub mod Walks
-pub mod Drafts
+pub mod Alone

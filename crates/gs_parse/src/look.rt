@@ -1,48 +1,19 @@
-//! What stands at the front of a chunk.
+//! What is kept of a chunk: its tree.
 
-ghost use Rattle.std.specs.Prelude.{◌<◌, ◌^◌, length};
-ghost use Rattle.gs_parse_expr.specs.Answer.{IsParsed};
-ghost use Rattle.gs_parse.specs.Drafts as draft;
-ghost use Rattle.gs_parse.specs.Drafts.{StandsFor, Wanted};
+ghost use Rattle.std.specs.Prelude.{Some};
 
+use gs_chunks::look::Look;
+use gs_ends::parsed::Parsed;
 use gs_grammar::trees::Chunk;
-use gs_parse_expr::at::{Parsed, chunk_at};
-use gs_parse_expr::end::{End, chunk_end};
+use gs_parse_expr::at::chunk_at;
 use gs_syntax::token::Token;
 use std::alloc::Global;
 
-/// A way to look at a chunk.
-pub trait Look {
-    /// What is wanted of the chunk.
-    ghost wanted: { Wanted };
-
-    /// What stands at the front of the chunk, and where it ends; its tree, where trees are wanted.
-    fn look(alloc: Global, tokens: &[Token]) -> Parsed<Option<Chunk>>
-        requires { length tokens.now < 2 ^ 32 }
-        ensures { IsParsed (StandsFor wanted) tokens.now 0 result };
-}
-
-/// Looks for the end alone, and builds no tree.
-pub struct Faults;
-
-impl Look for Faults {
-    ghost wanted = { draft.Faults };
-
-    fn look(alloc: Global, tokens: &[Token]) -> Parsed<Option<Chunk>> {
-        match chunk_end(alloc, tokens, 0) {
-            End::At(end) => Parsed::Tree(None, end),
-            End::None => Parsed::None,
-            End::TooDeep => Parsed::TooDeep,
-            End::NoMemory => Parsed::NoMemory,
-        }
-    }
-}
-
-/// Builds the tree.
+/// Builds the tree, and keeps it.
 pub struct Trees;
 
-impl Look for Trees {
-    ghost wanted = { draft.Trees };
+impl Look<Chunk> for Trees {
+    ghost keeps = { λ t. Some t };
 
     fn look(alloc: Global, tokens: &[Token]) -> Parsed<Option<Chunk>> {
         match chunk_at(alloc, tokens, 0) {

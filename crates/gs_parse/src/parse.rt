@@ -1,17 +1,17 @@
 //! The tree of a file.
 
 ghost use Rattle.std.specs.Prelude.{◌≤◌, length, IfOk};
-ghost use Rattle.gs_parse.specs.Drafts.{IsAlone};
-ghost use Rattle.gs_parse.specs.Files.{IsFileTree, most_bytes};
+ghost use Rattle.gs_chunks.specs.Files.{IsFileTree, most_bytes};
+ghost use Rattle.gs_parse.specs.Alone.{IsAlone};
 
-use crate::docs::docs_of;
-use crate::faults::fault_alone;
-use crate::judge::{Draft, judge_chunks};
-use crate::laws::few_tokens;
 use crate::look::Trees;
-use crate::text::text_of;
 use gs_base::Mem;
-use gs_grammar::trees::FileTree;
+use gs_chunks::docs::docs_of;
+use gs_chunks::faults::fault_alone;
+use gs_chunks::judge::{Draft, judge_chunks};
+use gs_chunks::laws::few_tokens;
+use gs_chunks::text::text_of;
+use gs_grammar::trees::{Chunk, FileTree};
 use gs_scan::laws::comments_ascend;
 use gs_scan::scan::scan_all;
 use gs_syntax::laws::chunks_follow;
@@ -43,7 +43,7 @@ fn text_tree(alloc: Global, text: &str) -> Mem<FileTree>
     if tokens.is_empty() {
         return tree_alone(alloc, 1);
     }
-    let draft = judge_chunks::<Trees>(alloc, tokens)?;
+    let draft = judge_chunks::<Chunk, Trees>(alloc, tokens)?;
     let docs = docs_of(
         alloc,
         text,

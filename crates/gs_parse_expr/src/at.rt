@@ -1,11 +1,13 @@
 //! The tree that stands at a place.
 ghost use Rattle.std.specs.Prelude.{◌<◌, ◌≤◌, ◌^◌, length};
 ghost use Rattle.gs_grammar.specs.Grammar.{IsBlockAt, IsChunkAt, IsExprAt, IsTypeAt};
-ghost use Rattle.gs_parse_expr.specs.Answer.{IsBuilt, IsParsed};
+ghost use Rattle.gs_ends.specs.Answer.{IsParsed};
+ghost use Rattle.gs_parse_expr.specs.Built.{IsBuilt};
 
-use crate::end::LIMIT;
 use gs_build::whole::{block_tree, chunk_tree, expr_tree, type_tree};
 use gs_build_base::pieces::{Piece, Stop};
+use gs_ends::end::LIMIT;
+use gs_ends::parsed::Parsed;
 use gs_grammar::trees::{Block, Chunk, Expr, TypeExpr};
 use gs_places::at::{at_expr, at_type};
 use gs_rows::table::{places_of, whole};
@@ -13,16 +15,6 @@ use gs_rows_decls::chunks::chunk;
 use gs_rows_expr::operands::block;
 use gs_syntax::token::Token;
 use std::alloc::Global;
-
-/// The longest tree that begins at a place and the place behind it, that none begins there, that it nests deeper than 200, or
-/// that no memory was left to say.
-#[derive(Drop)]
-pub enum Parsed<T> {
-    Tree(T, u32),
-    None,
-    TooDeep,
-    NoMemory,
-}
 
 /// What was built from a place on, in a list of so many tokens.
 fn answer<T>(count: usize, built: Result<Piece<'_, T>, Stop>) -> Parsed<T>

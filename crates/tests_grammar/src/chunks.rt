@@ -11,8 +11,9 @@ use crate::statements::{
     NO_HEADERS, NO_STATEMENTS, NO_SWITCHES, WHOLE_HEADERS, WHOLE_STATEMENTS, WHOLE_SWITCHES,
 };
 use crate::types::{NO_TYPES, WHOLE_TYPES};
-use gs_parse_expr::at::{Parsed, chunk_at};
-use gs_parse_expr::end::{End, chunk_end};
+use gs_ends::end::{End, chunk_end};
+use gs_ends::parsed::Parsed;
+use gs_parse_expr::at::chunk_at;
 use gs_scan::scan::scan;
 use gs_syntax::token::Token;
 use std::alloc::Global;

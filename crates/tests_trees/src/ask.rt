@@ -3,7 +3,8 @@ ghost use Rattle.std.specs.Prelude.{◌<◌, ◌^◌, length};
 
 use crate::part::{Parts, Tree};
 use crate::print::written;
-use gs_parse_expr::at::{Parsed, block_at, chunk_at, expr_at, type_at};
+use gs_ends::parsed::Parsed;
+use gs_parse_expr::at::{block_at, chunk_at, expr_at, type_at};
 use gs_scan::scan::scan;
 use gs_syntax::token::Token;
 use std::alloc::Global;

@@ -1,4 +1,5 @@
-use Rattle.gs_parse.proofs.Judging.{ok_then, tree_alone}
+use Rattle.gs_chunks.proofs.Judging.{ok_then}
+use Rattle.gs_parse.proofs.Trees.{tree_alone}
 use Rattle.gs_parse.proofs.parse.parse.Goals as goal
 
 pub returns-in-Err : goal.returns-in-Err

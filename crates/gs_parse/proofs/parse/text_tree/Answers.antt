@@ -1,11 +1,12 @@
 use Rattle.std.proofs.Common.{◌+◌, ap, length, subst, sym, ◌∙◌}
 use Rattle.gs_syntax.specs.Tokens.{AreTokens, mark_size}
 use Rattle.gs_scan.specs.Comments.{AreComments, Ascends}
-use Rattle.gs_parse.specs.Docs.{docs_at}
-use Rattle.gs_parse.specs.Files.{empty}
-use Rattle.gs_parse.specs.Walks.{AreSlashed}
-use Rattle.gs_parse.proofs.Judging.{ok_then, tree_alone, file_tree, no_items}
-use Rattle.gs_parse.proofs.Offsets.{comments_slashed, starts_ascend}
+use Rattle.gs_chunks.specs.Docs.{docs_at}
+use Rattle.gs_chunks.specs.Files.{empty}
+use Rattle.gs_chunks.specs.Walks.{AreSlashed}
+use Rattle.gs_chunks.proofs.Judging.{ok_then, no_items}
+use Rattle.gs_chunks.proofs.Offsets.{comments_slashed, starts_ascend}
+use Rattle.gs_parse.proofs.Trees.{file_tree, starts_kept, tree_alone}
 use Rattle.gs_parse.proofs.parse.text_tree.Goals as goal
 
 pub returns-then-is_empty : goal.returns-then-is_empty
@@ -22,7 +23,7 @@ pub docs_of-requires-clause-starts : goal.docs_of-requires-clause-starts
 docs_of-requires-clause-starts c =
     let are = subst (AreTokens c.args.text.now) (sym c.as_slice-tokens.ensures.value) c.in_ok-found.ensures.tokens in
     let verdicts = c.in_ok-draft.ensures in
-    subst (Ascends (mark_size c.args.text.now) (length c.args.text.now + 1)) (sym (c.as_slice-2.ensures.value ∙ verdicts.starts))
+    subst (Ascends (mark_size c.args.text.now) (length c.args.text.now + 1)) (sym (c.as_slice-2.ensures.value ∙ verdicts.starts ∙ starts_kept _ verdicts.verdicts))
     (starts_ascend c.args.text.now c.as_slice-tokens.result.now verdicts.verdicts are (c.chunks_follow.ensures c.as_slice-tokens.result.now))
 
 pub returns : goal.returns

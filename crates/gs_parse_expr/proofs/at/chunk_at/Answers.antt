@@ -1,7 +1,8 @@
 use Rattle.std.proofs.Common.{◌∙◌}
 use Rattle.gs_grammar.specs.Grammar.{IsChunkAt}
 use Rattle.gs_places.specs.Places.{stands}
-use Rattle.gs_parse_expr.proofs.Ends.{chunk_row_of, row_built, row_deep, row_lacks}
+use Rattle.gs_ends.proofs.Ends.{chunk_row_of, row_deep, row_lacks}
+use Rattle.gs_parse_expr.proofs.Built.{row_built}
 use Rattle.gs_parse_expr.proofs.at.chunk_at.Goals as goal
 
 pub returns-in-None : goal.returns-in-None

@@ -1,0 +1,5 @@
+pub mod Verdicts
+pub mod Docs
+pub mod Files
+pub mod Walks
+pub mod Drafts

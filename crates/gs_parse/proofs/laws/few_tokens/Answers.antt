@@ -1,5 +1,0 @@
-use Rattle.gs_parse.proofs.Fewness.{few_tokens}
-use Rattle.gs_parse.proofs.laws.few_tokens.Goals as goal
-
-pub returns : goal.returns
-returns c = few_tokens
